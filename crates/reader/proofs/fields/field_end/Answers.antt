@@ -1,0 +1,29 @@
+use Prim.Native.Nat.{_-_}
+use mathlib.Core.Path.{_≡_, ap, _∙_}
+use native.Mathlib.Omega.{arith}
+use Rattle.reader.specs.Text.{split, part}
+use Rattle.reader.proofs.Steps.{fieldsFrom-open, fields-more, fields-stops, fields-all}
+use Rattle.reader.proofs.fields.field_end.Needs as need
+
+pub loop-end-holds : need.loop-end-holds
+loop-end-holds c =
+    let none : _≡_ 0 (c .args .from - c .args .from) = omega arith in
+    (omega arith, omega arith, fieldsFrom-open _ _ _ (c .pre .0) ∙ ap (λ n. split (c .args .from) n (part (c .args .text .now) (c .args .from) (c .args .stop - c .args .from))) none)
+
+pub loop-end-again : need.loop-end-again
+loop-end-again c =
+    (omega arith, omega arith, c .loop-end .inv .2 ∙ fields-more (c .args .text .now) (c .args .from) (c .loop-end .end) (c .args .stop) (omega arith) (omega arith) (omega arith) (c .if-text-end-ne44 .taken))
+
+pub returns-else-text-end-ne44 : need.returns-else-text-end-ne44
+returns-else-text-end-ne44 c =
+    record {
+      cuts = c .loop-end .inv .2 ∙ fields-stops (c .args .text .now) (c .args .from) (c .loop-end .end) (c .args .stop) (omega arith) (omega arith) (omega arith) (c .if-text-end-ne44 .left);
+      inside = (omega arith, omega arith);
+    }
+
+pub returns-after-loop-end : need.returns-after-loop-end
+returns-after-loop-end c =
+    record {
+      cuts = c .loop-end .inv .2 ∙ fields-all (c .args .text .now) (c .args .from) (c .loop-end .end) (c .args .stop) (omega arith) (omega arith);
+      inside = (omega arith, omega arith);
+    }
