@@ -4,3 +4,8 @@ pub mod Faults
 pub mod Order
 pub mod Records
 pub mod Lines
+pub mod Listed
+pub mod Threads
+pub mod Reading
+pub mod Stepped
+pub mod Crew

@@ -29,7 +29,7 @@ use Rattle.reader.specs.declared.section.Section.the-variants.{Nothing, Header
 use Rattle.reader.specs.Names.{firstNamed}
 use Rattle.reader.specs.Order.{Written}
 use Rattle.reader.specs.Records.{blank, isCount, lastLetter, noTask, objectsOf, tasksOf}
-use Rattle.reader.specs.Text.{byte, bytesAt, every, fields, isLegal, isName, nowhere, numberIn, part, some}
+use Rattle.reader.specs.Text.{byte, bytesAt, every, fields, isLegal, isName, nowhere, numberIn, oneOf, part, some}
 
 abbrev pub andThen : {A B E : Type 0} → Result A E → (A → Result B E) → Result B E
 andThen (Ok x) f = f x
@@ -67,9 +67,6 @@ single (b ∷ c ∷ bs) = 0
 
 abbrev pub letterOf : List ℕ → Line → ℕ
 letterOf text l = single (fieldBytes text l 0)
-
-abbrev pub oneOf : ℕ → List ℕ → Bool
-oneOf c cs = some (eqb c) cs
 
 -- the section in which a record of this letter stands
 abbrev pub sectionOf : ℕ → Section

@@ -1,8 +1,9 @@
 -- What the records so far say: the objects and tasks that they declare, and where the text stands.
 use Prim.Native.Nat.{ℕ, _+_, _-_}
-use mathlib.Core.Bool.{Bool, cond, _&&_, _||_}
+use mathlib.Core.Bool.{Bool, true, cond, _&&_}
 use mathlib.Core.List.{List, [], _∷_}
-use lib.Dec.{eqb}
+use lib.Chars.{codes}
+use lib.Dec.{eqb, ltb}
 use lib.IntN.{pos}
 use lib.ListN.{length, getD}
 use Rattle.std.specs.Joined.{joined}
@@ -11,7 +12,7 @@ use Rattle.reader.specs.declared.rows.Kind.{Kind}
 use Rattle.reader.specs.declared.rows.Kind.the-variants.{Channel, Lock}
 use Rattle.reader.specs.declared.rows.ObjectRow.{ObjectRow}
 use Rattle.reader.specs.declared.rows.TaskRow.{TaskRow}
-use Rattle.reader.specs.Text.{byte}
+use Rattle.reader.specs.Text.{byte, oneOf}
 
 -- all zero
 abbrev pub blank : Record
@@ -30,9 +31,13 @@ isSend r = eqb (r .letter) (byte "S")
 abbrev pub isStart : Record → Bool
 isStart r = eqb (r .letter) (byte "F")
 
+-- a channel or a lock
+abbrev pub isObject : Record → Bool
+isObject r = oneOf (r .letter) (codes "CK")
+
 -- send, receive, acquire, release and start
 abbrev pub isOperation : Record → Bool
-isOperation r = isSend r || (eqb (r .letter) (byte "R") || (eqb (r .letter) (byte "A") || (eqb (r .letter) (byte "L") || isStart r)))
+isOperation r = oneOf (r .letter) (codes "SRALF")
 
 -- The objects, channels and locks, in the order of their declaration; their numbers count from 0.
 
@@ -74,3 +79,14 @@ openOperations rs = openFrom 0 rs
 -- the letter of the last record, 0 where there is none
 abbrev pub lastLetter : List Record → ℕ
 lastLetter rs = getD rs (length rs - 1) blank .letter
+
+-- Whether there is room for one more record: 800 lines, 32 objects, 24 tasks, and 512 operations of a task.
+abbrev pub roomFor : List Record → Record → Bool
+roomFor rs r =
+    cond (isObject r) (ltb (length (objectsOf rs)) 32)
+    (cond (isTask r) (ltb (length (tasksOf rs)) 24)
+    (cond (isOperation r) (ltb (openOperations rs) 512)
+    true))
+
+abbrev pub hasRoom : List Record → Record → Bool
+hasRoom rs r = ltb (length rs) 800 && roomFor rs r

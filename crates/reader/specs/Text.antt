@@ -55,6 +55,10 @@ abbrev pub firstFrom : {A : Type 0} → ℕ → (A → Bool) → List A → Opti
 firstFrom i p [] = None
 firstFrom i p (x ∷ xs) = cond (p x) (Some i) (firstFrom (i + 1) p xs)
 
+-- whether the number is among those of the list
+abbrev pub oneOf : ℕ → List ℕ → Bool
+oneOf c cs = some (eqb c) cs
+
 -- Lines
 
 -- the part of a list that begins at `start` and has `size` elements

@@ -13,6 +13,7 @@ use crate::lookup::find;
 use crate::place::Place;
 use crate::record::Record;
 use crate::rows::Kind;
+use crate::rows::TaskRow;
 
 fn same_kind(a: Kind, b: Kind) -> bool
     ensures { λ r. ⌜ r ≡ sameKind a b ⌝ }
@@ -70,6 +71,16 @@ pub fn rest(records: &[Record], from: usize) -> &[Record]
     &records[from..]
 }
 
+// The line of the last task, 0 where there is none.
+pub fn last_task_line(tasks: &[TaskRow]) -> usize
+    ensures { λ r. ⌜ r ≡ lastTaskLine (now (tasks .entry)) ⌝ }
+{
+    if tasks.len() == 0 {
+        return 0;
+    }
+    tasks[tasks.len() - 1].line
+}
+
 impl Known<'_> {
     // No object and no task has the name.
     pub fn is_new(&self, name: Place) -> Result<(), Cause>
@@ -125,21 +136,11 @@ impl Known<'_> {
         }
     }
 
-    // The line of the last task, 0 where there is none.
-    fn last_task_line(&self) -> usize
-        ensures { λ r. ⌜ r ≡ lastTaskLine (now (self .entry) .tasks .now) ⌝ }
-    {
-        if self.tasks.len() == 0 {
-            return 0;
-        }
-        self.tasks[self.tasks.len() - 1].line
-    }
-
     // No Q line of the open task has the channel.
     pub fn is_new_count(&self, channel: usize) -> Result<(), Cause>
         ensures { λ r. ⌜ r ≡ newCount (held (now (self .entry))) channel ⌝ }
     {
-        if has_count(channel, rest(self.records, self.last_task_line())) {
+        if has_count(channel, rest(self.records, last_task_line(self.tasks))) {
             Err(Cause::Twice)
         } else {
             Ok(())

@@ -5,9 +5,9 @@ use lib.ListN.{length}
 use Rattle.std.proofs.shelf.Lists.{getD-past}
 use Rattle.reader.specs.declared.rows.TaskRow.{TaskRow}
 use Rattle.reader.specs.Records.{noTask}
-use Rattle.reader.proofs.known.Known.last_task_line.Needs as need
+use Rattle.reader.proofs.uses.last_task_line.Needs as need
 
-pub returns-then-self-eq0 : need.returns-then-self-eq0
-returns-then-self-eq0 c =
-    let tasks = c .args .self .now .tasks .now in
+pub returns-then-tasks-eq0 : need.returns-then-tasks-eq0
+returns-then-tasks-eq0 c =
+    let tasks = c .args .tasks .now in
     ap (λ (t : TaskRow). t .line) (sym (getD-past tasks (length tasks - 1) noTask (omega arith)))
