@@ -4,3 +4,6 @@ pub mod Pushed
 pub mod Next
 pub mod Sheets
 pub mod Crews
+pub mod Rooms
+pub mod Blanks
+pub mod Wholes

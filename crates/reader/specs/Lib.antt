@@ -9,3 +9,6 @@ pub mod Threads
 pub mod Reading
 pub mod Stepped
 pub mod Crew
+pub mod Roomy
+pub mod Plans
+pub mod Made

@@ -14,6 +14,7 @@ mod note;
 mod numbers;
 mod order;
 mod place;
+mod plan;
 mod range;
 mod readers;
 mod reading;

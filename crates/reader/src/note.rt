@@ -5,6 +5,7 @@ ghost use mathlib.Core.Bool.{true, cond};
 ghost use mathlib.Core.List.{[], _∷_, _++_};
 ghost use lib.ListN.{length, take};
 ghost use Rattle.reader.specs.Records.{isObject, isTask, isOperation, objectRow, objectsIn, tasksIn, hasRoom};
+ghost use Rattle.reader.specs.Roomy.{Roomy};
 ghost use Rattle.reader.specs.Listed.{objectList, taskList, Listed};
 use crate::limits::MOST_LINES;
 use crate::limits::MOST_OBJECTS;
@@ -102,6 +103,18 @@ impl Lists {
             task_count: 0,
             operations: 0,
         }
+    }
+
+    // The lists of these records.
+    pub fn of(records: &[Record]) -> Lists
+        requires { ⌜ Roomy (now records) ⌝ }
+        ensures { λ r. ⌜ Listed r (now (records .entry)) ⌝ }
+    {
+        let mut lists = Lists::new();
+        for i in 0..records.len() {
+            lists.note(&records[0..i], records[i]);
+        }
+        lists
     }
 
     pub fn object_rows(&self) -> &[ObjectRow]

@@ -4,7 +4,7 @@ ghost use mathlib.Core.Path.{_≡_};
 ghost use mathlib.Core.List.{_++_};
 ghost use lib.ListN.{length, take};
 ghost use Rattle.std.specs.shelf.Lists.{sumBy};
-ghost use Rattle.reader.specs.Threads.{bodyOf, crew, sendsOf, starts as starting};
+ghost use Rattle.reader.specs.Threads.{bodyOf, crew, movesOf, sendsOf, starts as starting};
 use crate::limits::MOST_SENDS;
 use crate::limits::MOST_THREADS;
 use crate::record::Record;
@@ -70,6 +70,18 @@ pub fn send_count(records: &[Record], tasks: &[TaskRow], threads: &[usize]) -> u
         if n > MOST_SENDS {
             return MOST_SENDS + 1;
         }
+    }
+    n
+}
+
+// The moves of all these threads: their operations, and one closing each.
+pub fn move_count(records: &[Record], tasks: &[TaskRow], threads: &[usize]) -> usize
+    requires { ⌜ length (now records) ≤ 800 ⌝ ∗ ⌜ length (now threads) ≤ 64 ⌝ }
+    ensures { λ r. ⌜ r ≡ sumBy (movesOf (now (records .entry)) (now (tasks .entry))) (now (threads .entry)) ⌝ }
+{
+    let mut n = 0;
+    for task in threads {
+        n += body_of(records, tasks, *task).len() + 1;
     }
     n
 }
