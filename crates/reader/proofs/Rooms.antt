@@ -51,16 +51,16 @@ rooms o text [] rs all e i h k = let same : all ≡ rs = cc in absurd (omega (ar
 rooms o text (l ∷ ls) rs all e i h k =
     (elim (readNext o text rs l) as (λ x. readNext o text rs l ≡ x → andThen x (λ r. readRest o text (rs ++ r ∷ []) ls) ≡ Ok all → hasRoom (take i all) (getD all i blank) ≡ true) [
       | Ok r ↦ λ here rest.
-        ⊎-elim
-        (λ (later : length rs < i). rooms o text ls (rs ++ r ∷ []) all rest i (omega (arith, length-push rs r)) k)
-        (λ (first : i ≤ length rs).
+          ⊎-elim
+          (λ (later : length rs < i). rooms o text ls (rs ++ r ∷ []) all rest i (omega (arith, length-push rs r)) k)
+          (λ (first : i ≤ length rs).
           let same : length rs ≡ i = omega arith in
           let t = extends o text ls (rs ++ r ∷ []) all rest in
           let room : hasRoom (take (length rs) all) (getD all (length rs) blank) ≡ true =
-              ap (λ xs. hasRoom xs (getD all (length rs) blank)) (taken-here all rs r (t .0) (t .1))
-              ∙ ap (hasRoom rs) (found-here all rs r (t .0) (t .1)) ∙ next-room o text rs l r here in
+          ap (λ xs. hasRoom xs (getD all (length rs) blank)) (taken-here all rs r (t .0) (t .1))
+          ∙ ap (hasRoom rs) (found-here all rs r (t .0) (t .1)) ∙ next-room o text rs l r here in
           subst (λ n. hasRoom (take n all) (getD all n blank) ≡ true) same room)
-        (cases-lt (length rs) i)
+          (cases-lt (length rs) i)
       | Err f ↦ λ here rest. let z : _≡_ {A = ℕ} 0 1 = cc in absurd (omega arith)
     ]) refl e
 
@@ -86,14 +86,14 @@ roomy-blank rs n h few i k =
     let blanks = length-replicate n blank in
     ⊎-elim
     (λ (here : i < length rs).
-      subst (λ xs. hasRoom xs (getD (rs ++ replicate n blank) i blank) ≡ true) (sym (take-append-le i rs (replicate n blank) (omega arith)))
-      (subst (λ r. hasRoom (take i rs) r ≡ true) (sym (getD-append-left rs (replicate n blank) blank i here)) (h i here)))
+    subst (λ xs. hasRoom xs (getD (rs ++ replicate n blank) i blank) ≡ true) (sym (take-append-le i rs (replicate n blank) (omega arith)))
+    (subst (λ r. hasRoom (take i rs) r ≡ true) (sym (getD-append-left rs (replicate n blank) blank i here)) (h i here)))
     (λ (past : length rs ≤ i).
-      let at : getD (rs ++ replicate n blank) i blank ≡ blank =
-          getD-append-right rs (replicate n blank) (length rs) i blank refl past ∙ getD-replicate n (i - length rs) blank blank (omega (arith, size, blanks)) in
-      let short : length (take i (rs ++ replicate n blank)) < 800 = omega (arith, length-take-le i (rs ++ replicate n blank) (omega arith), size, blanks) in
-      subst (λ r. hasRoom (take i (rs ++ replicate n blank)) r ≡ true) (sym at) (blank-room (take i (rs ++ replicate n blank)) short))
+    let at : getD (rs ++ replicate n blank) i blank ≡ blank =
+    getD-append-right rs (replicate n blank) (length rs) i blank refl past ∙ getD-replicate n (i - length rs) blank blank (omega (arith, size, blanks)) in
+    let short : length (take i (rs ++ replicate n blank)) < 800 = omega (arith, length-take-le i (rs ++ replicate n blank) (omega arith), size, blanks) in
+    subst (λ r. hasRoom (take i (rs ++ replicate n blank)) r ≡ true) (sym at) (blank-room (take i (rs ++ replicate n blank)) short))
     (cases-lt i (length rs))
   where
-  blank-room : (xs : List Record) → length xs < 800 → hasRoom xs blank ≡ true
-  blank-room xs l = ap (λ b. b && true) (lt-ltb _ _ l)
+    blank-room : (xs : List Record) → length xs < 800 → hasRoom xs blank ≡ true
+    blank-room xs l = ap (λ b. b && true) (lt-ltb _ _ l)

@@ -51,9 +51,9 @@ ended-shown : (rs sheet : List Record) → Shows (ended rs) sheet → (finished 
 unfolding ended
 ended-shown rs sheet s = given (finished rs (tasksOf rs)) s
   where
-  given : (w : Result (Unit {0}) ReadFault) → Shows (andThen w (λ _. Ok rs)) sheet → (w ≡ Ok tt) × (sheet ≡ sheetOf (length sheet) rs)
-  given (Ok x) t = (refl, t)
-  given (Err f) t = absurd t
+    given : (w : Result (Unit {0}) ReadFault) → Shows (andThen w (λ _. Ok rs)) sheet → (w ≡ Ok tt) × (sheet ≡ sheetOf (length sheet) rs)
+    given (Ok x) t = (refl, t)
+    given (Err f) t = absurd t
 
 -- the first 800 records: those of the lines, and blank ones
 first-records : (rs sheet : List Record) → length rs ≤ 800 → 800 ≤ length sheet → sheet ≡ sheetOf (length sheet) rs → recordsIn sheet ≡ rs ++ replicate (800 - length rs) blank

@@ -29,7 +29,7 @@ use Rattle.reader.specs.declared.section.Section.the-variants.{Nothing, Header
 use Rattle.reader.specs.Names.{firstNamed}
 use Rattle.reader.specs.Order.{Written}
 use Rattle.reader.specs.Records.{blank, isCount, lastLetter, noTask, objectsOf, tasksOf}
-use Rattle.reader.specs.Text.{byte, bytesAt, every, fields, isLegal, isName, nowhere, numberIn, oneOf, part, some}
+use Rattle.reader.specs.Text.{byte, bytesAt, every, fields, isLegal, isName, lines, nowhere, numberIn, oneOf, part, some}
 
 abbrev pub andThen : {A B E : Type 0} → Result A E → (A → Result B E) → Result B E
 andThen (Ok x) f = f x
@@ -263,3 +263,12 @@ readLine o k l =
     andThen (sound (k .text) l) (λ _.
     andThen (letterAfter (k .text) (k .records) l) (λ c.
     byLetter o c k l))
+
+-- The order of a text: whether field 2 of line 1 is this word
+
+abbrev pub wordIs : List ℕ → List ℕ → List Line → Bool
+wordIs word text [] = false
+wordIs word text (l ∷ ls) = sameBytes (fieldBytes text l 1) word
+
+abbrev pub headerIs : List ℕ → List ℕ → Bool
+headerIs word text = wordIs word text (lines text)

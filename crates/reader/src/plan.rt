@@ -3,6 +3,7 @@ ghost use Prim.Native.Nat.{ℕ, _≤_};
 ghost use mathlib.Core.Path.{_≡_};
 ghost use lib.ListN.{length};
 ghost use Rattle.reader.specs.Made.{Made};
+ghost use Rattle.std.specs.shelf.Maps.{nth};
 ghost use Rattle.reader.specs.Plans.{WasRead, threadsOf, movesOf, sendsOf};
 ghost use Rattle.reader.specs.Reading.{reading, Shows};
 use crate::limits::MOST_LINES;
@@ -66,17 +67,36 @@ impl<'a> Plan<'a> {
         self.threads.count
     }
 
+    // The task of a thread, by number; none where there is no such thread. Thread 0 is of the main task, the last one.
+    pub fn task_of(&self, thread: usize) -> Option<usize>
+        ensures { λ r. ⌜ r ≡ nth (threadsOf (now (self .entry) .sheet .now)) thread ⌝ }
+    {
+        if thread < self.threads.count {
+            Some(self.threads.tasks[thread])
+        } else {
+            None
+        }
+    }
+
     // The operations of all threads, and one closing each.
     pub fn moves(&self) -> usize
         ensures { λ r. ⌜ r ≡ movesOf (now (self .entry) .sheet .now) ⌝ }
     {
-        move_count(&self.sheet[0..MOST_LINES], self.lists.task_rows(), self.threads.rows())
+        move_count(
+            &self.sheet[0..MOST_LINES],
+            self.lists.task_rows(),
+            self.threads.rows(),
+        )
     }
 
     // The sends of all threads.
     pub fn sends(&self) -> usize
         ensures { λ r. ⌜ r ≡ sendsOf (now (self .entry) .sheet .now) ⌝ }
     {
-        send_count(&self.sheet[0..MOST_LINES], self.lists.task_rows(), self.threads.rows())
+        send_count(
+            &self.sheet[0..MOST_LINES],
+            self.lists.task_rows(),
+            self.threads.rows(),
+        )
     }
 }

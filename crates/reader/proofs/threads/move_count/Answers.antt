@@ -15,9 +15,10 @@ loop-task-again c =
     let tasks = c .args .tasks .now in
     let k = getD (c .args .threads .now) (c .loop-task .task-index) 0 in
     let size = ap length (c .body-of .ensures) in
-    let short = body-short rs tasks k in
-    (omega (arith, size, short, c .loop-task .inv, c .pre),
-    omega (arith, size, c .loop-task .inv, sumBy-more (movesOf rs tasks) (c .args .threads .now) (c .loop-task .task-index) 0 (c .loop-task-test .taken)))
+    let short = body-short rs tasks k in (
+      omega (arith, size, short, c .loop-task .inv, c .pre),
+      omega (arith, size, c .loop-task .inv, sumBy-more (movesOf rs tasks) (c .args .threads .now) (c .loop-task .task-index) 0 (c .loop-task-test .taken)),
+    )
 
 pub returns : need.returns
 returns c =

@@ -27,11 +27,22 @@ ghost-result g c =
     let tasks : c .task-rows .result .now ≡ tasksOf (recordsIn sheet) = c .task-rows .ensures ∙ lists .tasks in
     let rows : threadList (c .of-threads .result) ≡ threadsOf sheet = crew .rows ∙ ap (threadsIn (recordsIn sheet)) tasks in
     let size : length (threadList (c .of-threads .result)) ≡ c .of-threads .result .count =
-        length-take-le (c .of-threads .result .count) (c .of-threads .result .tasks) (omega (arith, crew .count, crew .size)) in
-    (∣ (g .O·WrittenOrder .written, c .pre) ∣₁,
-    (w .long,
-    ((omega (arith, lists .object-count, lists .object-size), omega (arith, lists .task-count, lists .task-size), omega (arith, crew .count, crew .size)),
-    (∣ record { objects = lists .objects; tasks = lists .tasks; crew = rows } ∣₁,
-    (sym size ∙ ap length rows,
-    ((crew .count, w .few-sends),
-    tt))))))
+    length-take-le (c .of-threads .result .count) (c .of-threads .result .tasks) (omega (arith, crew .count, crew .size)) in (
+      ∣ (g .O·WrittenOrder .written, c .pre) ∣₁,
+      (
+        w .long,
+        (
+          (omega (arith, lists .object-count, lists .object-size), omega (arith, lists .task-count, lists .task-size), omega (arith, crew .count, crew .size)),
+          (
+            ∣ record { objects = lists .objects; tasks = lists .tasks; crew = rows } ∣₁,
+            (
+              sym size ∙ ap length rows,
+              (
+                (crew .count, w .few-sends),
+                tt,
+              ),
+            ),
+          ),
+        ),
+      ),
+    )

@@ -15,6 +15,6 @@ returns c =
     let rs = recordsIn sheet in
     ∥∥₁-elim (c .args .self .now .made) (ℕ-set _ _) (λ m.
     let counted : c .send-count .result ≡ min 1001 (sendsOf sheet) =
-        c .send-count .ensures ∙ ap (λ ts. min 1001 (sumBy (threads.sendsOf rs ts) (c .rows .result .now))) (c .task-rows .ensures ∙ m .tasks)
-        ∙ ap (λ xs. min 1001 (sumBy (threads.sendsOf rs (tasksOf rs)) xs)) (c .rows .ensures ∙ m .crew) in
+    c .send-count .ensures ∙ ap (λ ts. min 1001 (sumBy (threads.sendsOf rs ts) (c .rows .result .now))) (c .task-rows .ensures ∙ m .tasks)
+    ∙ ap (λ xs. min 1001 (sumBy (threads.sendsOf rs (tasksOf rs)) xs)) (c .rows .ensures ∙ m .crew) in
     omega (arith, counted, c .args .self .now .few .1))

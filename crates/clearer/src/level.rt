@@ -1,0 +1,6 @@
+// The wait level of the order ZONE.
+#[derive(Clone, Copy)]
+pub struct ZoneLevel {
+    pub zone: i32,
+    pub rank: i32,
+}
