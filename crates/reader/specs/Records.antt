@@ -60,7 +60,7 @@ tasksIn line r = cond (isTask r) (taskRow line r ∷ []) []
 
 abbrev pub tasksFrom : ℕ → List Record → List TaskRow
 tasksFrom line [] = []
-tasksFrom line (r ∷ rs) = cond (isTask r) (taskRow line r ∷ tasksFrom (line + 1) rs) (tasksFrom (line + 1) rs)
+tasksFrom line (r ∷ rs) = let after = tasksFrom (line + 1) rs in cond (isTask r) (taskRow line r ∷ after) after
 
 abbrev pub tasksOf : List Record → List TaskRow
 tasksOf rs = tasksFrom 1 rs

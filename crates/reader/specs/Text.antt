@@ -70,7 +70,8 @@ part xs start size = take size (drop start xs)
 abbrev pub cut : ℕ → ℕ → List ℕ → List Line
 cut start size [] = cond (eqb size 0) [] (record { start = start; size = size; ended = false } ∷ [])
 cut start size (b ∷ bs) =
-    cond (eqb b 10) (record { start = start; size = size; ended = true } ∷ cut (start + size + 1) 0 bs) (cut start (size + 1) bs)
+    let after = cut (start + size + 1) 0 bs in
+    cond (eqb b 10) (record { start = start; size = size; ended = true } ∷ after) (cut start (size + 1) bs)
 
 -- the lines from a place on, and all lines
 abbrev pub linesFrom : List ℕ → ℕ → List Line
@@ -85,7 +86,8 @@ lines text = linesFrom text 0
 abbrev pub split : ℕ → ℕ → List ℕ → List Place
 split start size [] = record { start = start; size = size } ∷ []
 split start size (b ∷ bs) =
-    cond (eqb b (byte ",")) (record { start = start; size = size } ∷ split (start + size + 1) 0 bs) (split start (size + 1) bs)
+    let after = split (start + size + 1) 0 bs in
+    cond (eqb b (byte ",")) (record { start = start; size = size } ∷ after) (split start (size + 1) bs)
 
 -- the fields from a place on, in a line that ends at `stop`; past the end of the line there is none
 abbrev pub fieldsFrom : List ℕ → ℕ → ℕ → List Place
