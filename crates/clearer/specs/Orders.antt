@@ -5,7 +5,7 @@ use lib.IntN.{ℤ, pos, negsuc}
 use lib.Dec.{eqb}
 use lib.Signed.{ltZ}
 use Rattle.clearer.specs.declared.level.ZoneLevel.{ZoneLevel}
-use Rattle.reader.specs.Order.{Written}
+use Rattle.records.specs.Order.{Written}
 
 -- RANK: the level is the first number, and the smaller one is below (`ltZ`)
 abbrev pub rankLevel : ℤ → ℤ → ℤ

@@ -10,14 +10,14 @@ use lib.ListN.{length}
 use Rattle.std.specs.declared.result.Result.{Result}
 use Rattle.std.specs.declared.result.Result.the-variants.{Ok, Err}
 use Rattle.clearer.specs.Orders.{rankWritten, zoneWritten}
-use Rattle.reader.specs.declared.fault.ReadFault.{ReadFault}
-use Rattle.reader.specs.declared.record.Record.{Record}
-use Rattle.reader.specs.Faults.{lineOf, numberOf}
-use Rattle.reader.specs.Order.{Written}
+use Rattle.records.specs.declared.fault.ReadFault.{ReadFault}
+use Rattle.records.specs.declared.record.Record.{Record}
+use Rattle.records.specs.Faults.{lineOf, numberOf}
+use Rattle.records.specs.Order.{Written}
 use Rattle.reader.specs.Reading.{reading}
-use Rattle.reader.specs.Records.{tasksOf}
-use Rattle.reader.specs.Text.{every}
-use Rattle.reader.specs.Threads.{movesIn, sendsIn, threadsIn}
+use Rattle.tasks.specs.Records.{tasksOf}
+use Rattle.text.specs.Text.{every}
+use Rattle.tasks.specs.Threads.{movesIn, sendsIn, threadsIn}
 
 -- a text that is read, and what it counts
 pub record Sample : Type 0 where

@@ -2,9 +2,9 @@
 ghost use mathlib.Core.Path.{_≡_};
 ghost use Rattle.clearer.specs.Orders.{zoneBelow, zoneLevel, zoneWritten};
 use crate::level::ZoneLevel;
-use reader::Range;
-use reader::WaitOrder;
-use reader::WrittenOrder;
+use records::Range;
+use records::WaitOrder;
+use records::WrittenOrder;
 
 pub struct Zone;
 

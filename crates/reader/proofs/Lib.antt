@@ -1,9 +1,2 @@
-pub mod Steps
-pub mod Ranges
-pub mod Pushed
 pub mod Next
 pub mod Sheets
-pub mod Crews
-pub mod Rooms
-pub mod Blanks
-pub mod Wholes

@@ -3,35 +3,25 @@ use Prim.Native.Nat.{ℕ, _+_, _<_, _≤_}
 use mathlib.Core.Path.{_≡_, refl, sym, ap, _∙_}
 use mathlib.Core.Bool.{Bool, true, false, cond}
 use mathlib.Core.List.{List, [], _∷_, _++_}
-use native.Mathlib.Omega.{arith}
+use borrow.Author.Needs.{needs}
 use lib.ListN.{length}
 use Rattle.std.proofs.shelf.Lists.{at-drop-all}
 use Rattle.std.proofs.shelf.Tests.{cond-true, cond-false}
 use Rattle.std.specs.declared.result.Result.{Result}
 use Rattle.std.specs.declared.result.Result.the-variants.{Ok, Err}
-use Rattle.reader.specs.declared.fault.Cause.{Cause}
-use Rattle.reader.specs.declared.fault.Cause.the-variants.{Full}
-use Rattle.reader.specs.declared.fault.ReadFault.{ReadFault}
-use Rattle.reader.specs.declared.fault.ReadFault.the-variants.{BadLine}
-use Rattle.reader.specs.declared.place.Line.{Line}
-use Rattle.reader.specs.declared.record.Record.{Record}
-use Rattle.reader.specs.declared.rows.ObjectRow.{ObjectRow}
-use Rattle.reader.specs.declared.rows.TaskRow.{TaskRow}
-use Rattle.reader.specs.Lines.{Before, andThen, before, readLine}
-use Rattle.reader.specs.Order.{Written}
+use Rattle.records.specs.declared.fault.Cause.{Cause}
+use Rattle.records.specs.declared.fault.Cause.the-variants.{Full}
+use Rattle.records.specs.declared.fault.ReadFault.{ReadFault}
+use Rattle.records.specs.declared.fault.ReadFault.the-variants.{BadLine}
+use Rattle.text.specs.declared.place.Line.{Line}
+use Rattle.records.specs.declared.record.Record.{Record}
+use Rattle.reader.specs.Lines.{andThen, before, readLine}
+use Rattle.records.specs.Order.{Written}
 use Rattle.reader.specs.Reading.{placed, readNext, readRest}
-use Rattle.reader.specs.Records.{hasRoom, objectsOf, tasksOf}
-use Rattle.reader.specs.Text.{cut, linesFrom}
+use Rattle.tasks.specs.Records.{hasRoom}
+use Rattle.text.specs.Text.{cut, linesFrom}
 
 module _ (o : Written) (text : List ℕ) (rs : List Record) (l : Line) where
-  -- the lists of the reader are those of the records
-  abbrev against : List ObjectRow → List TaskRow → Before
-  against os ts = record { text = text; records = rs; objects = os; tasks = ts }
-
-  pub read-same : (os : List ObjectRow) (ts : List TaskRow) (v : Result Record Cause) → os ≡ objectsOf rs → ts ≡ tasksOf rs
-      → v ≡ readLine o (against os ts) l → readLine o (before text rs) l ≡ v
-  read-same os ts v eo et e = sym (e ∙ ap (λ k. readLine o k l) (ap (λ x. against x ts) eo ∙ ap (against (objectsOf rs)) et))
-
   pub next-row : (r : Record) → readLine o (before text rs) l ≡ Ok r → hasRoom rs r ≡ true → readNext o text rs l ≡ Ok r
   unfolding readNext
   next-row r e h = ap (placed rs) e ∙ cond-true _ _ _ h
@@ -55,3 +45,6 @@ module _ (o : Written) (text : List ℕ) (rs : List Record) (l : Line) (ls after
 
 pub rest-all : (o : Written) (text : List ℕ) (rs : List Record) (from : ℕ) → length text ≤ from → readRest o text rs (linesFrom text from) ≡ Ok rs
 rest-all o text rs from h = ap (readRest o text rs) (at-drop-all (cut from 0) text from h)
+
+pub room-length : (rs : List Record) (r : Record) → hasRoom rs r ≡ true → length rs < 800
+room-length rs r h = search needs

@@ -12,14 +12,14 @@ use Rattle.std.specs.declared.result.Result.the-variants.{Ok, Err}
 use Rattle.std.proofs.shelf.Lists.{append-nil, append-assoc, drop-at, drop-drop, drop-replicate, drop-set-lt, getD-at, getD-replicate, length-drop, length-take-le, replicate-more, take-append-drop, take-more}
 use Rattle.std.proofs.shelf.Tests.{false≢true}
 use Rattle.std.proofs.shelf.Ways.{decides-like}
-use Rattle.reader.specs.declared.fault.ReadFault.{ReadFault}
-use Rattle.reader.specs.declared.place.Line.{Line}
-use Rattle.reader.specs.declared.record.Record.{Record}
+use Rattle.records.specs.declared.fault.ReadFault.{ReadFault}
+use Rattle.text.specs.declared.place.Line.{Line}
+use Rattle.records.specs.declared.record.Record.{Record}
 use Rattle.reader.specs.Lines.{andThen}
-use Rattle.reader.specs.Order.{Written}
+use Rattle.records.specs.Order.{Written}
 use Rattle.reader.specs.Reading.{Shows, ended, finished, readLines, readNext, readRest, sheetAfter, sheetOf, verdict}
-use Rattle.reader.specs.Records.{blank, tasksOf}
-use Rattle.reader.specs.Text.{lines}
+use Rattle.tasks.specs.Records.{blank, tasksOf}
+use Rattle.text.specs.Text.{lines}
 
 -- the sheet: `count` records, then blank ones
 

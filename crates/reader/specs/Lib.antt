@@ -1,14 +1,3 @@
-pub mod Text
-pub mod Names
-pub mod Faults
-pub mod Order
-pub mod Records
 pub mod Lines
-pub mod Listed
-pub mod Threads
 pub mod Reading
 pub mod Stepped
-pub mod Crew
-pub mod Roomy
-pub mod Plans
-pub mod Made

@@ -13,23 +13,23 @@ use Rattle.std.specs.declared.option.Option.{Option}
 use Rattle.std.specs.declared.option.Option.the-variants.{Some, None}
 use Rattle.std.specs.declared.result.Result.{Result}
 use Rattle.std.specs.declared.result.Result.the-variants.{Ok, Err}
-use Rattle.reader.specs.declared.fault.Cause.{Cause}
-use Rattle.reader.specs.declared.fault.Cause.the-variants.{Bytes, Letter, Count, Form, Declared, Unknown, Twice}
+use Rattle.records.specs.declared.fault.Cause.{Cause}
+use Rattle.records.specs.declared.fault.Cause.the-variants.{Bytes, Letter, Count, Form, Declared, Unknown, Twice}
 use Rattle.reader.specs.declared.known.Known.{Known}
-use Rattle.reader.specs.declared.place.Line.{Line}
-use Rattle.reader.specs.declared.place.Place.{Place}
-use Rattle.reader.specs.declared.range.Range.{Range}
-use Rattle.reader.specs.declared.record.Record.{Record}
-use Rattle.reader.specs.declared.rows.Kind.{Kind}
-use Rattle.reader.specs.declared.rows.Kind.the-variants.{Channel, Lock}
-use Rattle.reader.specs.declared.rows.ObjectRow.{ObjectRow}
-use Rattle.reader.specs.declared.rows.TaskRow.{TaskRow}
+use Rattle.text.specs.declared.place.Line.{Line}
+use Rattle.text.specs.declared.place.Place.{Place}
+use Rattle.records.specs.declared.range.Range.{Range}
+use Rattle.records.specs.declared.record.Record.{Record}
+use Rattle.records.specs.declared.rows.Kind.{Kind}
+use Rattle.records.specs.declared.rows.Kind.the-variants.{Channel, Lock}
+use Rattle.records.specs.declared.rows.ObjectRow.{ObjectRow}
+use Rattle.records.specs.declared.rows.TaskRow.{TaskRow}
 use Rattle.reader.specs.declared.section.Section.{Section}
 use Rattle.reader.specs.declared.section.Section.the-variants.{Nothing, Header, Objects, Carries, Task, Counts, Operations}
-use Rattle.reader.specs.Names.{firstNamed}
-use Rattle.reader.specs.Order.{Written}
-use Rattle.reader.specs.Records.{blank, isCount, lastLetter, noTask, objectsOf, tasksOf}
-use Rattle.reader.specs.Text.{byte, bytesAt, every, fields, isLegal, isName, lines, nowhere, numberIn, oneOf, part, some}
+use Rattle.records.specs.Names.{firstNamed}
+use Rattle.records.specs.Order.{Written}
+use Rattle.tasks.specs.Records.{blank, isCount, lastLetter, noTask, objectsOf, tasksOf}
+use Rattle.text.specs.Text.{byte, bytesAt, every, fields, isLegal, isName, lines, nowhere, numberIn, oneOf, part, some}
 
 abbrev pub andThen : {A B E : Type 0} → Result A E → (A → Result B E) → Result B E
 andThen (Ok x) f = f x

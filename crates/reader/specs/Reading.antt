@@ -8,18 +8,18 @@ use lib.ListN.{length, drop, replicate, take}
 use Rattle.std.specs.shelf.Lists.{leading}
 use Rattle.std.specs.declared.result.Result.{Result}
 use Rattle.std.specs.declared.result.Result.the-variants.{Ok, Err}
-use Rattle.reader.specs.declared.fault.Cause.{Cause}
-use Rattle.reader.specs.declared.fault.Cause.the-variants.{Full}
-use Rattle.reader.specs.declared.fault.ReadFault.{ReadFault}
-use Rattle.reader.specs.declared.fault.ReadFault.the-variants.{TextTooLong, SheetTooShort, BadLine, NoTask, NeverStarted, MainHasCounts, TooManyThreads, TooManySends}
-use Rattle.reader.specs.declared.place.Line.{Line}
-use Rattle.reader.specs.declared.record.Record.{Record}
-use Rattle.reader.specs.declared.rows.TaskRow.{TaskRow}
+use Rattle.records.specs.declared.fault.Cause.{Cause}
+use Rattle.records.specs.declared.fault.Cause.the-variants.{Full}
+use Rattle.records.specs.declared.fault.ReadFault.{ReadFault}
+use Rattle.records.specs.declared.fault.ReadFault.the-variants.{TextTooLong, SheetTooShort, BadLine, NoTask, NeverStarted, MainHasCounts, TooManyThreads, TooManySends}
+use Rattle.text.specs.declared.place.Line.{Line}
+use Rattle.records.specs.declared.record.Record.{Record}
+use Rattle.records.specs.declared.rows.TaskRow.{TaskRow}
 use Rattle.reader.specs.Lines.{andThen, before, lastTaskLine, readLine}
-use Rattle.reader.specs.Order.{Written}
-use Rattle.reader.specs.Records.{blank, hasRoom, isCount, isStart, tasksOf}
-use Rattle.reader.specs.Text.{lines, some}
-use Rattle.reader.specs.Threads.{sendsIn, threadsIn}
+use Rattle.records.specs.Order.{Written}
+use Rattle.tasks.specs.Records.{blank, hasRoom, isCount, isStart, tasksOf}
+use Rattle.text.specs.Text.{lines, some}
+use Rattle.tasks.specs.Threads.{sendsIn, threadsIn}
 
 -- The lines, 3 to 10
 
@@ -65,13 +65,15 @@ fewThreads rs tasks = cond (leb (length (threadsIn rs tasks)) 64) (Ok tt) (Err T
 abbrev pub fewSends : List Record → List TaskRow → Result (Unit {0}) ReadFault
 fewSends rs tasks = cond (leb (sendsIn rs tasks) 1000) (Ok tt) (Err TooManySends)
 
+abbrev pub fewThreadsAndSends : List Record → List TaskRow → Result (Unit {0}) ReadFault
+fewThreadsAndSends rs tasks = andThen (fewThreads rs tasks) (λ _. fewSends rs tasks)
+
 abbrev pub finished : List Record → List TaskRow → Result (Unit {0}) ReadFault
 finished rs tasks =
     andThen (someTask tasks) (λ _.
     andThen (othersStarted rs tasks) (λ _.
     andThen (mainWithoutCounts rs tasks) (λ _.
-    andThen (fewThreads rs tasks) (λ _.
-    fewSends rs tasks))))
+    fewThreadsAndSends rs tasks)))
 
 -- The whole text; shut at the end of the lines, so that the proofs of the loops do not see into what comes after them.
 unfoldable pub ended : List Record → Result (List Record) ReadFault

@@ -1,26 +1,18 @@
 // What is looked at after all lines.
-ghost use Prim.Native.Nat.{ℕ, _+_, _-_, _≤_};
 ghost use mathlib.Core.Path.{_≡_};
-ghost use lib.ListN.{length, take};
-ghost use Rattle.std.specs.Vec.{made};
-ghost use Rattle.reader.specs.Text.{some};
-ghost use Rattle.reader.specs.Records.{tasksOf};
-ghost use Rattle.reader.specs.Lines.{lastTaskLine};
-ghost use Rattle.reader.specs.Listed.{Listed};
-ghost use Rattle.reader.specs.Threads.{threadsIn};
-ghost use Rattle.reader.specs.Reading.{someTask, isStartOf, startedFrom, othersStarted, mainWithoutCounts, fewThreads, fewSends, finished};
-use crate::fault::ReadFault;
-use crate::limits::MOST_SENDS;
-use crate::limits::MOST_THREADS;
-use crate::lists::Lists;
-use crate::record::Record;
-use crate::rows::TaskRow;
-use crate::table::Threads;
-use crate::tasks::leading_counts;
-use crate::threads::send_count;
-use crate::threads::thread_count;
+ghost use Rattle.text.specs.Text.{some};
+ghost use Rattle.tasks.specs.Records.{tasksOf, viewOf};
+ghost use Rattle.tasks.specs.Shown.{shown};
+ghost use Rattle.reader.specs.Reading.{someTask, isStartOf, startedFrom, othersStarted, mainWithoutCounts, fewThreadsAndSends, finished};
 use crate::uses::last_task_line;
-use crate::uses::rest;
+use records::ReadFault;
+use records::Record;
+use records::TaskRow;
+use records::limits::MOST_SENDS;
+use tasks::Lists;
+use tasks::Threads;
+use tasks::leading_counts;
+use tasks::rest;
 
 // There is a task.
 fn has_task(tasks: &[TaskRow]) -> Result<(), ReadFault>
@@ -83,28 +75,19 @@ fn main_without_counts(records: &[Record], tasks: &[TaskRow]) -> Result<(), Read
     }
 }
 
-// At most 64 threads.
-fn few_threads(records: &[Record], tasks: &[TaskRow]) -> Result<(), ReadFault>
-    ensures answer { λ r. ⌜ r ≡ fewThreads (now (records .entry)) (now (tasks .entry)) ⌝ }
-    ensures few { λ r. ⌜ made r (λ _. length (threadsIn (now (records .entry)) (now (tasks .entry))) ≤ 64) ⌝ }
+// At most 64 threads, and at most 1,000 sends.
+fn few_threads_and_sends(records: &[Record], tasks: &[TaskRow]) -> Result<(), ReadFault>
+    ensures { λ r. ⌜ r ≡ fewThreadsAndSends (now (records .entry)) (now (tasks .entry)) ⌝ }
 {
-    if thread_count(records, tasks, tasks.len().saturating_sub(1)) <= MOST_THREADS {
-        Ok(())
-    } else {
-        Err(ReadFault::TooManyThreads)
-    }
-}
-
-// At most 1,000 sends.
-fn few_sends(records: &[Record], tasks: &[TaskRow]) -> Result<(), ReadFault>
-    requires { ⌜ length (threadsIn (now records) (now tasks)) ≤ 64 ⌝ }
-    ensures { λ r. ⌜ r ≡ fewSends (now (records .entry)) (now (tasks .entry)) ⌝ }
-{
-    let threads = Threads::of(records, tasks);
-    if send_count(records, tasks, threads.rows()) <= MOST_SENDS {
-        Ok(())
-    } else {
-        Err(ReadFault::TooManySends)
+    match Threads::of(records, tasks) {
+        None => Err(ReadFault::TooManyThreads),
+        Some(threads) => {
+            if threads.sends(records, tasks) <= MOST_SENDS {
+                Ok(())
+            } else {
+                Err(ReadFault::TooManySends)
+            }
+        }
     }
 }
 
@@ -114,13 +97,12 @@ fn finish_tasks(records: &[Record], tasks: &[TaskRow]) -> Result<(), ReadFault>
     has_task(tasks)?;
     others_started(records, tasks)?;
     main_without_counts(records, tasks)?;
-    few_threads(records, tasks)?;
-    few_sends(records, tasks)
+    few_threads_and_sends(records, tasks)
 }
 
 // The faults that only all lines together have.
 pub fn finish(records: &[Record], lists: &Lists) -> Result<(), ReadFault>
-    requires { ⌜ Listed (now lists) (now records) ⌝ }
+    requires { ⌜ shown (now lists) ≡ viewOf (now records) ⌝ }
     ensures { λ r. ⌜ r ≡ finished (now (records .entry)) (tasksOf (now (records .entry))) ⌝ }
 {
     finish_tasks(records, lists.task_rows())

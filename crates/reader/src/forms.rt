@@ -1,35 +1,24 @@
 // What the parts of a line have to be: each step answers what it found, or a cause.
-ghost use Prim.Native.Nat.{ℕ, _+_, _≤_};
 ghost use mathlib.Core.Path.{_≡_};
-ghost use lib.ListN.{length};
-ghost use Rattle.std.specs.Vec.{made};
-ghost use Rattle.reader.specs.Text.{isName};
-ghost use Rattle.reader.specs.Records.{lastLetter};
+ghost use Rattle.tasks.specs.Records.{lastLetter};
 ghost use Rattle.reader.specs.Lines.{fieldBytes, sound, letterOf, letterAfter, counted, nameAt, numberAt, wordAt, notZero, secondAt, levelAt};
-use crate::bytes::Class;
-use crate::bytes::all_of;
-use crate::bytes::same_bytes;
-use crate::fault::Cause;
-use crate::fields::field;
-use crate::fields::field_count;
 use crate::known::Known;
-use crate::limits::LINE_BYTES;
-use crate::limits::NAME_BYTES;
-use crate::lines::bytes_at;
-use crate::numbers::number_in;
-use crate::order::WrittenOrder;
-use crate::place::Line;
-use crate::place::Place;
-use crate::range::Range;
-use crate::record::Record;
 use crate::section::may_follow;
-
-// Whether the bytes are a name: 1 to 12 bytes from A to Z and 0 to 9.
-fn is_name(bytes: &[u8]) -> bool
-    ensures { λ r. ⌜ r ≡ isName (now (bytes .entry)) ⌝ }
-{
-    bytes.len() >= 1 && bytes.len() <= NAME_BYTES && all_of(bytes, Class::Letter)
-}
+use records::Cause;
+use records::Range;
+use records::Record;
+use records::WrittenOrder;
+use records::limits::LINE_BYTES;
+use text::Class;
+use text::Line;
+use text::Place;
+use text::all_of;
+use text::bytes_at;
+use text::field;
+use text::field_count;
+use text::is_name;
+use text::number_in;
+use text::same_bytes;
 
 // The letter of the last record, or '\0'.
 fn last_letter(records: &[Record]) -> char
@@ -51,7 +40,6 @@ pub fn is_not_zero(count: i32) -> Result<(), Cause>
 impl Known<'_> {
     // The line is ended by byte 10, is not too long, and has legal bytes.
     pub fn is_sound(&self, line: Line) -> Result<(), Cause>
-        requires { ⌜ line .start + line .size ≤ length (now self .text .now) ⌝ }
         ensures { λ r. ⌜ r ≡ sound (now (self .entry) .text .now) line ⌝ }
     {
         let Line { start, size, ended } = line;
@@ -64,7 +52,6 @@ impl Known<'_> {
 
     // The bytes of the field with this number.
     fn field_bytes(&self, line: Line, n: usize) -> &[u8]
-        requires { ⌜ line .start + line .size ≤ length (now self .text .now) ⌝ }
         ensures { λ r. ⌜ now r ≡ fieldBytes (now (self .entry) .text .now) line n ⌝ }
     {
         let Place { start, size } = field(self.text, line, n);
@@ -73,7 +60,6 @@ impl Known<'_> {
 
     // The letter of the line, or '\0' where the first field is not one byte.
     fn letter(&self, line: Line) -> char
-        requires { ⌜ line .start + line .size ≤ length (now self .text .now) ⌝ }
         ensures { λ r. ⌜ r ≡ letterOf (now (self .entry) .text .now) line ⌝ }
     {
         let first = self.field_bytes(line, 0);
@@ -86,7 +72,6 @@ impl Known<'_> {
 
     // The letter of the line, if the line stands in its section.
     pub fn letter_in_section(&self, line: Line) -> Result<char, Cause>
-        requires { ⌜ line .start + line .size ≤ length (now self .text .now) ⌝ }
         ensures { λ r. ⌜ r ≡ letterAfter (now (self .entry) .text .now) (now (self .entry) .records .now) line ⌝ }
     {
         let letter = self.letter(line);
@@ -99,7 +84,6 @@ impl Known<'_> {
 
     // The line has so many fields.
     pub fn has_fields(&self, line: Line, n: usize) -> Result<(), Cause>
-        requires { ⌜ line .start + line .size ≤ length (now self .text .now) ⌝ }
         ensures { λ r. ⌜ r ≡ counted (now (self .entry) .text .now) line n ⌝ }
     {
         if field_count(self.text, line) == n {
@@ -111,9 +95,7 @@ impl Known<'_> {
 
     // The field is a name.
     pub fn name_at(&self, line: Line, n: usize) -> Result<Place, Cause>
-        requires { ⌜ line .start + line .size ≤ length (now self .text .now) ⌝ }
-        ensures answer { λ r. ⌜ r ≡ nameAt (now (self .entry) .text .now) line n ⌝ }
-        ensures inside { λ r. ⌜ made r (λ p. p .start + p .size ≤ length (now (self .entry) .text .now)) ⌝ }
+        ensures { λ r. ⌜ r ≡ nameAt (now (self .entry) .text .now) line n ⌝ }
     {
         let place = field(self.text, line, n);
         if is_name(bytes_at(self.text, place.start, place.size)) {
@@ -125,7 +107,6 @@ impl Known<'_> {
 
     // The field is a number in the range.
     pub fn number_at(&self, line: Line, n: usize, range: Range) -> Result<i32, Cause>
-        requires { ⌜ line .start + line .size ≤ length (now self .text .now) ⌝ }
         ensures { λ r. ⌜ r ≡ numberAt (now (self .entry) .text .now) line n range ⌝ }
     {
         number_in(self.field_bytes(line, n), range.low, range.high).ok_or(Cause::Form)
@@ -133,7 +114,6 @@ impl Known<'_> {
 
     // The field is this word.
     pub fn word_at(&self, line: Line, n: usize, word: &[u8]) -> Result<(), Cause>
-        requires { ⌜ line .start + line .size ≤ length (now self .text .now) ⌝ }
         ensures { λ r. ⌜ r ≡ wordAt (now (self .entry) .text .now) line n (now (word .entry)) ⌝ }
     {
         if same_bytes(self.field_bytes(line, n), word) {
@@ -145,7 +125,6 @@ impl Known<'_> {
 
     // The second number of a level, 0 where the order writes one.
     fn second_at<O: WrittenOrder>(&self, line: Line) -> Result<i32, Cause>
-        requires { ⌜ line .start + line .size ≤ length (now self .text .now) ⌝ }
         ensures { λ r. ⌜ r ≡ secondAt (O·WrittenOrder .written) (now (self .entry) .text .now) line ⌝ }
     {
         if O::field_count() == 2 {
@@ -157,7 +136,6 @@ impl Known<'_> {
 
     // The two numbers of a level.
     pub fn level_at<O: WrittenOrder>(&self, line: Line) -> Result<(i32, i32), Cause>
-        requires { ⌜ line .start + line .size ≤ length (now self .text .now) ⌝ }
         ensures { λ r. ⌜ r ≡ levelAt (O·WrittenOrder .written) (now (self .entry) .text .now) line ⌝ }
     {
         let number = self.number_at(line, 2, O::first_range())?;

@@ -1,7 +1,7 @@
 // What a line is read against.
-use crate::record::Record;
-use crate::rows::ObjectRow;
-use crate::rows::TaskRow;
+use records::ObjectRow;
+use records::Record;
+use records::TaskRow;
 
 // The text, the records of the lines before, and the objects and tasks that these declare.
 #[derive(Clone, Copy)]

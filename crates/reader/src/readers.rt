@@ -1,17 +1,15 @@
 // A reader for the lines of each letter.
-ghost use Prim.Native.Nat.{ℕ, _+_, _≤_};
 ghost use mathlib.Core.Path.{_≡_};
-ghost use lib.ListN.{length};
 ghost use Rattle.reader.specs.Lines.{held, readHeader, readObject, readCarry, readTask, readCount, readSend, readUse, readStart, byLetter, readLine};
-use crate::fault::Cause;
 use crate::forms::is_not_zero;
 use crate::known::Known;
-use crate::order::WrittenOrder;
-use crate::place::Line;
-use crate::range::Range;
-use crate::record::BLANK;
-use crate::record::Record;
-use crate::rows::Kind;
+use records::BLANK;
+use records::Cause;
+use records::Kind;
+use records::Range;
+use records::Record;
+use records::WrittenOrder;
+use text::Line;
 
 // How many credits a message may carry.
 const CARRIED: Range = Range { low: 1, high: 100 };
@@ -31,7 +29,6 @@ const WORDS: Range = Range {
 impl Known<'_> {
     // P,order
     fn read_header<O: WrittenOrder>(&self, line: Line) -> Result<Record, Cause>
-        requires { ⌜ line .start + line .size ≤ length (now self .text .now) ⌝ }
         ensures { λ r. ⌜ r ≡ readHeader (O·WrittenOrder .written) (held (now (self .entry))) line ⌝ }
     {
         self.has_fields(line, 2)?;
@@ -44,7 +41,6 @@ impl Known<'_> {
 
     // C,name,level and K,name,level
     fn read_object<O: WrittenOrder>(&self, line: Line, letter: char) -> Result<Record, Cause>
-        requires { ⌜ line .start + line .size ≤ length (now self .text .now) ⌝ }
         ensures { λ r. ⌜ r ≡ readObject (O·WrittenOrder .written) (held (now (self .entry))) line letter ⌝ }
     {
         self.has_fields(line, 2 + O::field_count())?;
@@ -64,7 +60,6 @@ impl Known<'_> {
 
     // W,carrier,carried,count
     fn read_carry(&self, line: Line) -> Result<Record, Cause>
-        requires { ⌜ line .start + line .size ≤ length (now self .text .now) ⌝ }
         ensures { λ r. ⌜ r ≡ readCarry (held (now (self .entry))) line ⌝ }
     {
         self.has_fields(line, 4)?;
@@ -85,7 +80,6 @@ impl Known<'_> {
 
     // T,name
     fn read_task(&self, line: Line) -> Result<Record, Cause>
-        requires { ⌜ line .start + line .size ≤ length (now self .text .now) ⌝ }
         ensures { λ r. ⌜ r ≡ readTask (held (now (self .entry))) line ⌝ }
     {
         self.has_fields(line, 2)?;
@@ -102,7 +96,6 @@ impl Known<'_> {
 
     // Q,channel,count
     fn read_count(&self, line: Line) -> Result<Record, Cause>
-        requires { ⌜ line .start + line .size ≤ length (now self .text .now) ⌝ }
         ensures { λ r. ⌜ r ≡ readCount (held (now (self .entry))) line ⌝ }
     {
         self.has_fields(line, 3)?;
@@ -121,7 +114,6 @@ impl Known<'_> {
 
     // S,channel,word
     fn read_send(&self, line: Line) -> Result<Record, Cause>
-        requires { ⌜ line .start + line .size ≤ length (now self .text .now) ⌝ }
         ensures { λ r. ⌜ r ≡ readSend (held (now (self .entry))) line ⌝ }
     {
         self.has_fields(line, 3)?;
@@ -138,7 +130,6 @@ impl Known<'_> {
 
     // R,channel and A,lock and L,lock
     fn read_use(&self, line: Line, letter: char, kind: Kind) -> Result<Record, Cause>
-        requires { ⌜ line .start + line .size ≤ length (now self .text .now) ⌝ }
         ensures { λ r. ⌜ r ≡ readUse (held (now (self .entry))) line letter kind ⌝ }
     {
         self.has_fields(line, 2)?;
@@ -153,7 +144,6 @@ impl Known<'_> {
 
     // F,task
     fn read_start(&self, line: Line) -> Result<Record, Cause>
-        requires { ⌜ line .start + line .size ≤ length (now self .text .now) ⌝ }
         ensures { λ r. ⌜ r ≡ readStart (held (now (self .entry))) line ⌝ }
     {
         self.has_fields(line, 2)?;
@@ -168,7 +158,6 @@ impl Known<'_> {
 
     // The letter chooses the reader of the line.
     fn by_letter<O: WrittenOrder>(&self, letter: char, line: Line) -> Result<Record, Cause>
-        requires { ⌜ line .start + line .size ≤ length (now self .text .now) ⌝ }
         ensures { λ r. ⌜ r ≡ byLetter (O·WrittenOrder .written) letter (held (now (self .entry))) line ⌝ }
     {
         match letter {
@@ -189,7 +178,6 @@ impl Known<'_> {
 
     // The record of a line, or what is wrong with it.
     pub fn read_line<O: WrittenOrder>(&self, line: Line) -> Result<Record, Cause>
-        requires { ⌜ line .start + line .size ≤ length (now self .text .now) ⌝ }
         ensures { λ r. ⌜ r ≡ readLine (O·WrittenOrder .written) (held (now (self .entry))) line ⌝ }
     {
         self.is_sound(line)?;

@@ -8,18 +8,19 @@ ghost use Rattle.std.specs.Orderings.{Decides};
 ghost use Rattle.std.specs.Results.{isOk};
 ghost use Rattle.std.specs.Vec.{refused};
 ghost use Rattle.std.specs.declared.result.Result.the-variants.{Ok};
-ghost use Rattle.reader.specs.Records.{blank};
+ghost use Rattle.tasks.specs.Records.{blank};
 ghost use Rattle.reader.specs.Reading.{readLines, reading, verdict, sheetAfter, Shows};
-use crate::fault::ReadFault;
 use crate::finish::finish;
-use crate::limits::MOST_BYTES;
-use crate::limits::MOST_LINES;
-use crate::lists::Lists;
-use crate::order::WrittenOrder;
 use crate::reading::read_step;
-use crate::record::BLANK;
-use crate::record::Record;
-use crate::record::RecordPartialEq;
+use records::BLANK;
+use records::ReadFault;
+use records::Record;
+use records::RecordPartialEq;
+use records::WrittenOrder;
+use records::limits::MOST_BYTES;
+use records::limits::MOST_LINES;
+use tasks::Lists;
+use text::next_line;
 
 // Makes every record blank.
 fn clear(sheet: &mut [Record])
@@ -37,11 +38,11 @@ fn fill<O: WrittenOrder>(text: &[u8], sheet: &mut [Record]) -> Result<(), ReadFa
     let mut lists = Lists::new();
     let mut count = 0;
     let mut from = 0;
-    while from < text.len() {
-        let step = read_step::<O>(text, &sheet[0..count], &mut lists, from)?;
-        sheet[count] = step.row;
+    while let Some(line) = next_line(text, from) {
+        let row = read_step::<O>(text, &sheet[0..count], &mut lists, line)?;
+        sheet[count] = row;
         count += 1;
-        from = step.next;
+        from = line.start + line.size + 1;
     }
     finish(&sheet[0..count], &lists)
 }
@@ -94,14 +95,14 @@ fn shows<O: WrittenOrder>(text: &[u8], sheet: &[Record]) -> bool
     let mut lists = Lists::new();
     let mut count = 0;
     let mut from = 0;
-    while from < text.len() {
-        match read_step::<O>(text, &sheet[0..count], &mut lists, from) {
-            Ok(step) => {
-                if !same(step.row, sheet[count]) {
+    while let Some(line) = next_line(text, from) {
+        match read_step::<O>(text, &sheet[0..count], &mut lists, line) {
+            Ok(row) => {
+                if !same(row, sheet[count]) {
                     return false;
                 }
                 count += 1;
-                from = step.next;
+                from = line.start + line.size + 1;
             }
             Err(_) => return false,
         }

@@ -1,19 +1,18 @@
 // What the names of a line have to be, and what may stand only once.
-ghost use Prim.Native.Nat.{ℕ, _+_, _≤_};
 ghost use mathlib.Core.Path.{_≡_};
-ghost use lib.ListN.{length, drop};
-ghost use Rattle.reader.specs.Text.{some};
+ghost use Rattle.text.specs.Text.{some};
 ghost use Rattle.reader.specs.Lines.{held, newName, sameKind, objectNamed, taskNamed, objectOf, taskAbove, isPair, newPair, isCountOf, newCount, lastTaskLine};
-use crate::fault::Cause;
 use crate::known::Known;
-use crate::lines::bytes_at;
-use crate::lookup::ObjectNamed;
-use crate::lookup::TaskNamed;
-use crate::lookup::find;
-use crate::place::Place;
-use crate::record::Record;
-use crate::rows::Kind;
-use crate::rows::TaskRow;
+use records::Cause;
+use records::Kind;
+use records::ObjectNamed;
+use records::Record;
+use records::TaskNamed;
+use records::TaskRow;
+use records::find;
+use tasks::rest;
+use text::Place;
+use text::bytes_at;
 
 fn same_kind(a: Kind, b: Kind) -> bool
     ensures { λ r. ⌜ r ≡ sameKind a b ⌝ }
@@ -61,16 +60,6 @@ fn has_count(channel: usize, records: &[Record]) -> bool
     false
 }
 
-// The records from an index on.
-pub fn rest(records: &[Record], from: usize) -> &[Record]
-    ensures { λ r. ⌜ now r ≡ drop from (now (records .entry)) ⌝ }
-{
-    if from > records.len() {
-        return &records[records.len()..];
-    }
-    &records[from..]
-}
-
 // The line of the last task, 0 where there is none.
 pub fn last_task_line(tasks: &[TaskRow]) -> usize
     ensures { λ r. ⌜ r ≡ lastTaskLine (now (tasks .entry)) ⌝ }
@@ -84,7 +73,6 @@ pub fn last_task_line(tasks: &[TaskRow]) -> usize
 impl Known<'_> {
     // No object and no task has the name.
     pub fn is_new(&self, name: Place) -> Result<(), Cause>
-        requires { ⌜ name .start + name .size ≤ length (now self .text .now) ⌝ }
         ensures { λ r. ⌜ r ≡ newName (held (now (self .entry))) name ⌝ }
     {
         let bytes = bytes_at(self.text, name.start, name.size);
@@ -99,7 +87,6 @@ impl Known<'_> {
 
     // The number of the object that has the name, if it is of the kind.
     pub fn object(&self, kind: Kind, name: Place) -> Result<usize, Cause>
-        requires { ⌜ name .start + name .size ≤ length (now self .text .now) ⌝ }
         ensures { λ r. ⌜ r ≡ objectOf (held (now (self .entry))) kind name ⌝ }
     {
         let bytes = bytes_at(self.text, name.start, name.size);
@@ -117,7 +104,6 @@ impl Known<'_> {
 
     // The number of the task above the last one that has the name.
     pub fn task_above(&self, name: Place) -> Result<usize, Cause>
-        requires { ⌜ name .start + name .size ≤ length (now self .text .now) ⌝ }
         ensures { λ r. ⌜ r ≡ taskAbove (held (now (self .entry))) name ⌝ }
     {
         let bytes = bytes_at(self.text, name.start, name.size);

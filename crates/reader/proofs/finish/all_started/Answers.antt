@@ -3,7 +3,7 @@ use native.Mathlib.Omega.{arith}
 use Rattle.std.proofs.shelf.Lists.{at-drop-more, at-drop-all}
 use Rattle.std.proofs.shelf.Tests.{cond-true, cond-false}
 use Rattle.reader.specs.Reading.{startedFrom}
-use Rattle.reader.specs.Records.{noTask}
+use Rattle.tasks.specs.Records.{noTask}
 use Rattle.reader.proofs.finish.all_started.Needs as need
 
 pub returns-then-not-is-started : need.returns-then-not-is-started

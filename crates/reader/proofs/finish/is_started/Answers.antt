@@ -1,8 +1,8 @@
 use mathlib.Core.Path.{sym, _∙_}
 use Rattle.std.proofs.shelf.Lists.{at-drop-all}
-use Rattle.reader.specs.Text.{some}
+use Rattle.text.specs.Text.{some}
 use Rattle.reader.specs.Reading.{isStartOf}
-use Rattle.reader.proofs.Steps.{some-more, some-stops}
+use Rattle.text.proofs.Steps.{some-more, some-stops}
 use Rattle.reader.proofs.finish.is_started.Needs as need
 
 pub returns-then-is-start-of : need.returns-then-is-start-of

@@ -1,6 +1,6 @@
 use mathlib.Core.Path.{_≡_}
 use lib.ListN.{drop}
-use Rattle.reader.specs.Text.{some}
+use Rattle.text.specs.Text.{some}
 use Rattle.reader.specs.Reading.{isStartOf}
 use Rattle.reader.proofs.finish.is_started.Given as given
 

@@ -3,8 +3,8 @@ use mathlib.Core.Path.{ap, sym}
 use native.Mathlib.Omega.{arith}
 use lib.ListN.{length}
 use Rattle.std.proofs.shelf.Lists.{getD-past}
-use Rattle.reader.specs.declared.record.Record.{Record}
-use Rattle.reader.specs.Records.{blank}
+use Rattle.records.specs.declared.record.Record.{Record}
+use Rattle.tasks.specs.Records.{blank}
 use Rattle.reader.proofs.forms.last_letter.Needs as need
 
 pub returns-then-records-eq0 : need.returns-then-records-eq0

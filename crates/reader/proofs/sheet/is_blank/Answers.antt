@@ -3,7 +3,7 @@ use native.Mathlib.Omega.{arith}
 use lib.ListN.{length, replicate}
 use Rattle.std.proofs.shelf.Tests.{false≢true}
 use Rattle.std.proofs.shelf.Lists.{take-all}
-use Rattle.reader.specs.Records.{blank}
+use Rattle.tasks.specs.Records.{blank}
 use Rattle.reader.proofs.Sheets.{decides-no, blank-here, blank-one-more}
 use Rattle.reader.proofs.sheet.is_blank.Needs as need
 

@@ -1,6 +1,6 @@
 use mathlib.Core.Path.{_≡_}
 use lib.ListN.{take, replicate}
-use Rattle.reader.specs.Records.{blank}
+use Rattle.tasks.specs.Records.{blank}
 use Rattle.reader.proofs.sheet.is_blank.Given as given
 
 abbrev pub Inv-loop-row : given.InvT-loop-row

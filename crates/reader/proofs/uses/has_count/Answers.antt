@@ -1,8 +1,8 @@
 use mathlib.Core.Path.{sym, _∙_}
 use Rattle.std.proofs.shelf.Lists.{at-drop-all}
-use Rattle.reader.specs.Text.{some}
+use Rattle.text.specs.Text.{some}
 use Rattle.reader.specs.Lines.{isCountOf}
-use Rattle.reader.proofs.Steps.{some-more, some-stops}
+use Rattle.text.proofs.Steps.{some-more, some-stops}
 use Rattle.reader.proofs.uses.has_count.Needs as need
 
 pub returns-then-is-count-of : need.returns-then-is-count-of

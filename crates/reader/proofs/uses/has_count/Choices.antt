@@ -1,6 +1,6 @@
 use mathlib.Core.Path.{_≡_}
 use lib.ListN.{drop}
-use Rattle.reader.specs.Text.{some}
+use Rattle.text.specs.Text.{some}
 use Rattle.reader.specs.Lines.{isCountOf}
 use Rattle.reader.proofs.uses.has_count.Given as given
 

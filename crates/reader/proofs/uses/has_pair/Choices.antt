@@ -1,6 +1,6 @@
 use mathlib.Core.Path.{_≡_}
 use lib.ListN.{drop}
-use Rattle.reader.specs.Text.{some}
+use Rattle.text.specs.Text.{some}
 use Rattle.reader.specs.Lines.{isPair}
 use Rattle.reader.proofs.uses.has_pair.Given as given
 

@@ -3,8 +3,8 @@ use mathlib.Core.Path.{ap, sym}
 use native.Mathlib.Omega.{arith}
 use lib.ListN.{length}
 use Rattle.std.proofs.shelf.Lists.{getD-past}
-use Rattle.reader.specs.declared.rows.TaskRow.{TaskRow}
-use Rattle.reader.specs.Records.{noTask}
+use Rattle.records.specs.declared.rows.TaskRow.{TaskRow}
+use Rattle.tasks.specs.Records.{noTask}
 use Rattle.reader.proofs.uses.last_task_line.Needs as need
 
 pub returns-then-tasks-eq0 : need.returns-then-tasks-eq0

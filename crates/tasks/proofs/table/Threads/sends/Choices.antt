@@ -1,0 +1,10 @@
+use Prim.Native.Nat.{_+_, _*_, _≤_}
+use mathlib.Core.Path.{_≡_}
+use lib.ListN.{length, take}
+use Rattle.std.specs.shelf.Lists.{sumBy}
+use Rattle.tasks.specs.Threads.{sendsOf}
+use Rattle.tasks.proofs.table.Threads.sends.Given as given
+
+-- no thread has more than one for each record, and one
+abbrev pub Inv-loop-task : given.InvT-loop-task
+Inv-loop-task l = (l .n ≤ l .task-index * (length (l .records) + 1)) × (l .n ≡ sumBy (sendsOf (l .records) (l .tasks)) (take (l .task-index) (l .rows)))

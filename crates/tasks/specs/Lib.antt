@@ -1,0 +1,5 @@
+pub mod Records
+pub mod Shown
+pub mod Roomy
+pub mod Threads
+pub mod Crew
