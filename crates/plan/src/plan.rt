@@ -14,17 +14,20 @@ use tasks::Lists;
 use tasks::Threads;
 
 // The text and the sheet that reading it gives, with the lists of its objects and tasks and the table of its threads,
-// made once. It cannot be copied: a later stage is made from it and uses it up.
+// made once, and its counts. It cannot be copied: a later stage is made from it and uses it up.
 #[derive(Drop)]
 pub struct Plan<'a> {
     text: &'a [u8],
     sheet: &'a [Record],
     lists: Lists,
     threads: Threads,
+    moves: usize,
+    sends: usize,
     ghost read: { WasRead (text .now) (sheet .now) },
     ghost long: { 800 ≤ length (sheet .now) },
     ghost made: { ∥ Made lists threads (sheet .now) ∥₁ },
     ghost count: { length (threadList threads) ≡ length (planThreads (sheet .now)) },
+    ghost counts: { (moves ≡ planMoves (sheet .now)) × (sends ≡ planSends (sheet .now)) },
 }
 
 impl<'a> Plan<'a> {
@@ -36,13 +39,20 @@ impl<'a> Plan<'a> {
     {
         let records = &sheet[0..MOST_LINES];
         let lists = Lists::of(records);
-        match Threads::of(records, lists.task_rows()) {
-            Some(threads) => Plan {
-                text,
-                sheet,
-                lists,
-                threads,
-            },
+        let tasks = lists.task_rows();
+        match Threads::of(records, tasks) {
+            Some(threads) => {
+                let moves = threads.moves(records, tasks);
+                let sends = threads.sends(records, tasks);
+                Plan {
+                    text,
+                    sheet,
+                    lists,
+                    threads,
+                    moves,
+                    sends,
+                }
+            }
             None => unreachable(),
         }
     }
@@ -84,15 +94,13 @@ impl<'a> Plan<'a> {
     pub fn moves(&self) -> usize
         ensures { λ r. ⌜ r ≡ planMoves (now (self .entry) .sheet .now) ⌝ }
     {
-        self.threads
-            .moves(&self.sheet[0..MOST_LINES], self.lists.task_rows())
+        self.moves
     }
 
     // The sends of all threads.
     pub fn sends(&self) -> usize
         ensures { λ r. ⌜ r ≡ planSends (now (self .entry) .sheet .now) ⌝ }
     {
-        self.threads
-            .sends(&self.sheet[0..MOST_LINES], self.lists.task_rows())
+        self.sends
     }
 }

@@ -2,9 +2,10 @@ use Prim.Native.Nat.{_≤_, _<_}
 use mathlib.Core.Path.{_≡_, sym, ap, subst, _∙_}
 use native.Mathlib.Omega.{arith}
 use lib.ListN.{length}
+use Rattle.std.specs.shelf.Lists.{sumBy}
 use Rattle.tasks.specs.Crew.{threadList}
 use Rattle.tasks.specs.Records.{View, tasksOf, viewOf}
-use Rattle.tasks.specs.Threads.{threadsIn}
+use Rattle.tasks.specs.Threads.{movesOf, sendsOf, threadsIn}
 use Rattle.plan.specs.Plans.{planThreads, recordsIn}
 use Rattle.plan.proofs.Wholes.{Whole, whole}
 use Rattle.plan.proofs.plan.Plan.new.Given as given
@@ -15,8 +16,8 @@ use Rattle.plan.proofs.plan.Plan.new.Needs.{After-of}
 says : (g : given.Over) (c : After-of g) → Whole (c .args .sheet .now)
 says g c = whole (g .O·WrittenOrder .written) (c .args .text .now) (c .args .sheet .now) (c .pre)
 
-tasks : (g : given.Over) (c : After-of g) → c .task-rows .result .now ≡ tasksOf (recordsIn (c .args .sheet .now))
-tasks g c = c .task-rows .ensures ∙ ap (λ (v : View). v .tasks) (c .of-lists .ensures (says g c .roomy))
+tasks : (g : given.Over) (c : After-of g) → c .task-rows-tasks .result .now ≡ tasksOf (recordsIn (c .args .sheet .now))
+tasks g c = c .task-rows-tasks .ensures ∙ ap (λ (v : View). v .tasks) (c .of-lists .ensures (says g c .roomy))
 
 pub unreachable-requires : need.unreachable-requires
 unreachable-requires g c κs =
@@ -31,4 +32,9 @@ ghost-result g c =
     let w = says g a in
     let law = g .O·WrittenOrder·met .«one_or_two» in
     let rows : threadList (c .in-Some .threads) ≡ planThreads sheet = c .in-Some .ensures tt ∙ ap (threadsIn (recordsIn sheet)) (tasks g a) in
-    (∣ (g .O·WrittenOrder .written, law .0, law .1, c .pre) ∣₁, (w .long, (∣ record { listed = c .of-lists .ensures (w .roomy); crew = rows } ∣₁, (ap length rows, tt))))
+    let rs = recordsIn sheet in
+    let moves = c .moves-moves .ensures ∙ ap (λ ts. sumBy (movesOf rs ts) (threadList (c .in-Some .threads))) (tasks g a) ∙ ap (sumBy (movesOf rs (tasksOf rs))) rows in
+    let sends = c .sends-sends .ensures ∙ ap (λ ts. sumBy (sendsOf rs ts) (threadList (c .in-Some .threads))) (tasks g a) ∙ ap (sumBy (sendsOf rs (tasksOf rs))) rows in (
+      ∣ (g .O·WrittenOrder .written, law .0, law .1, c .pre) ∣₁,
+      (w .long, (∣ record { listed = c .of-lists .ensures (w .roomy); crew = rows } ∣₁, (ap length rows, ((moves, sends), tt)))),
+    )
