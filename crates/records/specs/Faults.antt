@@ -1,7 +1,9 @@
--- The number of each fault of reading, and the line that it names.
+-- The number of each fault of reading, the line that it names, and its layer.
 use Prim.Native.Nat.{ℕ}
 use Rattle.records.specs.declared.fault.Cause.{Cause}
 use Rattle.records.specs.declared.fault.Cause.the-variants.{Bytes, Letter, Count, Form, Declared, Unknown, Twice, Full}
+use Rattle.records.specs.declared.fault.Layer.{Layer}
+use Rattle.records.specs.declared.fault.Layer.the-variants.{Reading}
 use Rattle.records.specs.declared.fault.ReadFault.{ReadFault}
 use Rattle.records.specs.declared.fault.ReadFault.the-variants.{TextTooLong, SheetTooShort, SheetDiffers, BadLine, NoTask, NeverStarted, MainHasCounts, TooManyThreads, TooManySends}
 
@@ -37,3 +39,7 @@ lineOf (NeverStarted line) = line
 lineOf (MainHasCounts line) = line
 lineOf TooManyThreads = 0
 lineOf TooManySends = 0
+
+-- the layer that refuses
+abbrev pub layerOf : ReadFault → Layer
+layerOf f = Reading

@@ -1,6 +1,6 @@
 // Why a text is not a plan.
 ghost use mathlib.Core.Path.{_≡_};
-ghost use Rattle.records.specs.Faults.{numberOf, lineOf, causeNumber};
+ghost use Rattle.records.specs.Faults.{numberOf, lineOf, layerOf, causeNumber};
 
 // The parts of the work that can refuse; a fault names its layer.
 #[derive(Clone, Copy)]
@@ -97,8 +97,9 @@ impl ReadFault {
         }
     }
 
+    // The layer that refuses.
     pub fn layer(self) -> Layer
-        ensures { λ r. ⌜ r ≡ Layer.Reading ⌝ }
+        ensures { λ r. ⌜ r ≡ layerOf self ⌝ }
     {
         Layer::Reading
     }

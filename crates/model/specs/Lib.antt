@@ -1,0 +1,11 @@
+pub mod Program
+pub mod Rules
+pub mod Mailbox
+pub mod Machine
+pub mod History
+pub mod Position
+pub mod Promises
+pub mod Accounts
+pub mod Threads
+pub mod Example
+pub mod RuleExamples
