@@ -1,2 +1,4 @@
 pub mod Orders
 pub mod Samples
+pub mod Breach
+pub mod Verdicts

@@ -1,2 +1,3 @@
 pub mod Plans
 pub mod Made
+pub mod Program
