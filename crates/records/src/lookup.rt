@@ -2,8 +2,9 @@
 ghost use Prim.Native.Nat.{ℕ, _+_, _<_, _≤_};
 ghost use mathlib.Core.Path.{_≡_};
 ghost use mathlib.Core.List.{List, map};
-ghost use lib.ListN.{length};
+ghost use lib.ListN.{length, drop};
 ghost use Rattle.std.specs.Slices.{found};
+ghost use Rattle.text.specs.Text.{firstFrom};
 ghost use Rattle.records.specs.Names.{firstNamed, named};
 use crate::rows::ObjectRow;
 use crate::rows::TaskRow;
@@ -43,16 +44,24 @@ fn names(text: &[u8], start: usize, size: usize, name: &[u8]) -> bool
     same_bytes(&text[start..start + size], name)
 }
 
-// The first row with the same bytes as the name, or none.
-pub fn find<R: Named>(rows: &[R], text: &[u8], name: &[u8]) -> Option<usize>
-    ensures first { λ r. ⌜ r ≡ firstNamed (now (text .entry)) (now (name .entry)) (map (R·Named .spot) (now (rows .entry))) ⌝ }
+// The first row from an index on that has the same bytes as the name, or none.
+fn find_from<R: Named>(rows: &[R], from: usize, text: &[u8], name: &[u8]) -> Option<usize>
+    ensures first { λ r. ⌜ r ≡ firstFrom from (named (now (text .entry)) (now (name .entry))) (map (R·Named .spot) (drop from (now (rows .entry)))) ⌝ }
     ensures inside { λ r. ⌜ found r (λ i. i < length (now (rows .entry))) ⌝ }
 {
-    for (i, row) in rows.iter().enumerate() {
-        let (start, size) = row.place();
+    for i in from..rows.len() {
+        let (start, size) = rows[i].place();
         if names(text, start, size, name) {
             return Some(i);
         }
     }
     None
+}
+
+// The first row with the same bytes as the name, or none.
+pub fn find<R: Named>(rows: &[R], text: &[u8], name: &[u8]) -> Option<usize>
+    ensures first { λ r. ⌜ r ≡ firstNamed (now (text .entry)) (now (name .entry)) (map (R·Named .spot) (now (rows .entry))) ⌝ }
+    ensures inside { λ r. ⌜ found r (λ i. i < length (now (rows .entry))) ⌝ }
+{
+    find_from(rows, 0, text, name)
 }

@@ -1,11 +1,34 @@
 // The lines of a text.
-ghost use Prim.Native.Nat.{ℕ, _+_, _≤_};
+ghost use Prim.Native.Nat.{ℕ, _<_};
 ghost use mathlib.Core.Path.{_≡_};
-ghost use mathlib.Core.List.{[], _∷_};
+ghost use mathlib.Core.List.{[]};
 ghost use lib.ListN.{length};
 ghost use Rattle.std.specs.Options.{Cases};
 ghost use Rattle.text.specs.Text.{linesFrom, part, LineAt};
 use crate::place::Line;
+
+// The line that begins at `from`.
+fn line_at(text: &[u8], from: usize) -> Line
+    requires { ⌜ from < length (now text) ⌝ }
+    ensures { λ r. ⌜ LineAt (now (text .entry)) from r ⌝ }
+{
+    let mut end = from;
+    while end < text.len() {
+        if text[end] == b'\n' {
+            return Line {
+                start: from,
+                size: end - from,
+                ended: true,
+            };
+        }
+        end += 1;
+    }
+    Line {
+        start: from,
+        size: end - from,
+        ended: false,
+    }
+}
 
 // The line that begins at `from`, or none where the text has ended. The next line begins after its byte 10.
 pub fn next_line(text: &[u8], from: usize) -> Option<Line>
@@ -14,22 +37,7 @@ pub fn next_line(text: &[u8], from: usize) -> Option<Line>
     if from >= text.len() {
         return None;
     }
-    let mut end = from;
-    while end < text.len() {
-        if text[end] == b'\n' {
-            return Some(Line {
-                start: from,
-                size: end - from,
-                ended: true,
-            });
-        }
-        end += 1;
-    }
-    Some(Line {
-        start: from,
-        size: end - from,
-        ended: false,
-    })
+    Some(line_at(text, from))
 }
 
 // The bytes from a start on, so many of them, or as many as the text has there.

@@ -2,7 +2,7 @@ use Prim.Native.Nat.{_-_, _≤_}
 use mathlib.Core.Path.{_≡_}
 use lib.ListN.{length, drop}
 use Rattle.text.specs.Text.{linesFrom, cut}
-use Rattle.text.proofs.lines.next_line.Given as given
+use Rattle.text.proofs.lines.line_at.Given as given
 
 -- the line that stands open has the bytes from `from` to `end`
 abbrev pub Inv-loop-end : given.InvT-loop-end

@@ -8,7 +8,7 @@ use Rattle.std.specs.declared.option.Option.the-variants.{Some}
 use Rattle.std.proofs.shelf.Lists.{at-drop-more, at-drop-all}
 use Rattle.text.specs.Text.{firstFrom}
 use Rattle.records.specs.Names.{named}
-use Rattle.records.proofs.lookup.find.Needs as need
+use Rattle.records.proofs.lookup.find_from.Needs as need
 
 -- one row more of the search
 step : {X Y : Type 0} (p : Y → Bool) (f : X → Y) (xs : List X) (i : ℕ) (x : X) → x ≡ getD xs i x → i < length xs → (b : Bool) → p (f x) ≡ b
