@@ -1,3 +1,12 @@
 pub mod Rooms
 pub mod Blanks
 pub mod Wholes
+pub mod Goods
+pub mod Leadings
+pub mod Sections
+pub mod Bodies
+pub mod Sounds
+pub mod Limits
+pub mod Counts
+pub mod Checks
+pub mod Meanings

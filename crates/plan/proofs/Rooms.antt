@@ -26,6 +26,11 @@ pub let-through : {A E : Type 0} (b : Bool) (x y : A) (f : E) → cond b (Ok x) 
 let-through true x y f e = (refl, cc)
 let-through false x y f e = let z : _≡_ {A = ℕ} 0 1 = cc in absurd (omega arith)
 
+-- the steps of a chain that went through
+pub and-ok : {A B E : Type 0} (v : Result A E) (f : A → Result B E) (y : B) → andThen v f ≡ Ok y → (x : A) × (v ≡ Ok x) × (f x ≡ Ok y)
+and-ok (Ok x) f y e = (x, refl, e)
+and-ok (Err c) f y e = let z : _≡_ {A = ℕ} 0 1 = cc in absurd (omega arith)
+
 placed-room : (rs : List Record) (v : Result Record Cause) (r : Record) → placed rs v ≡ Ok r → hasRoom rs r ≡ true
 placed-room rs (Err c) r e = let z : _≡_ {A = ℕ} 0 1 = cc in absurd (omega arith)
 placed-room rs (Ok x) r e = let p = let-through (hasRoom rs x) x r _ e in subst (λ y. hasRoom rs y ≡ true) (p .1) (p .0)
@@ -45,28 +50,32 @@ module _ (all rs : List Record) (r : Record) (more : List Record) (is : all ≡ 
   pub found-here : getD all (length rs) blank ≡ r
   found-here = ap (λ xs. getD xs (length rs) blank) split-here ∙ getD-at rs r more blank (length rs) refl
 
-pub rooms : (o : Written) (text : List ℕ) (ls : List Line) (rs all : List Record) → readRest o text rs ls ≡ Ok all
-    → (i : ℕ) → length rs ≤ i → i < length all → hasRoom (take i all) (getD all i blank) ≡ true
-rooms o text [] rs all e i h k = let same : all ≡ rs = cc in absurd (omega (arith, ap length same))
-rooms o text (l ∷ ls) rs all e i h k =
-    (elim (readNext o text rs l) as (λ x. readNext o text rs l ≡ x → andThen x (λ r. readRest o text (rs ++ r ∷ []) ls) ≡ Ok all → hasRoom (take i all) (getD all i blank) ≡ true) [
-      | Ok r ↦ λ here rest.
-          ⊎-elim
-          (λ (later : length rs < i). rooms o text ls (rs ++ r ∷ []) all rest i (omega (arith, length-push rs r)) k)
-          (λ (first : i ≤ length rs).
-          let same : length rs ≡ i = omega arith in
-          let t = extends o text ls (rs ++ r ∷ []) all rest in
-          let room : hasRoom (take (length rs) all) (getD all (length rs) blank) ≡ true =
-          ap (λ xs. hasRoom xs (getD all (length rs) blank)) (taken-here all rs r (t .0) (t .1))
-          ∙ ap (hasRoom rs) (found-here all rs r (t .0) (t .1)) ∙ next-room o text rs l r here in
-          subst (λ n. hasRoom (take n all) (getD all n blank) ≡ true) same room)
-          (cases-lt (length rs) i)
-      | Err f ↦ λ here rest. let z : _≡_ {A = ℕ} 0 1 = cc in absurd (omega arith)
-    ]) refl e
+-- what every record has that was read after others, the records of a text have, each after those before it
+module _ (o : Written) (text : List ℕ) (P : List Record → Record → Type 0) (each : (rs : List Record) (l : Line) (r : Record) → readNext o text rs l ≡ Ok r → P rs r) where
+  from-here : (ls : List Line) (rs all : List Record) → readRest o text rs ls ≡ Ok all → (i : ℕ) → length rs ≤ i → i < length all → P (take i all) (getD all i blank)
+  from-here [] rs all e i h k = let same : all ≡ rs = cc in absurd (omega (arith, ap length same))
+  from-here (l ∷ ls) rs all e i h k =
+      (elim (readNext o text rs l) as (λ x. readNext o text rs l ≡ x → andThen x (λ r. readRest o text (rs ++ r ∷ []) ls) ≡ Ok all → P (take i all) (getD all i blank)) [
+        | Ok r ↦ λ here rest.
+            ⊎-elim
+            (λ (later : length rs < i). from-here ls (rs ++ r ∷ []) all rest i (omega (arith, length-push rs r)) k)
+            (λ (first : i ≤ length rs).
+            let same : length rs ≡ i = omega arith in
+            let t = extends o text ls (rs ++ r ∷ []) all rest in
+            let this : P (take (length rs) all) (getD all (length rs) blank) =
+            subst (λ xs. P xs (getD all (length rs) blank)) (sym (taken-here all rs r (t .0) (t .1)))
+            (subst (P rs) (sym (found-here all rs r (t .0) (t .1))) (each rs l r here)) in
+            subst (λ n. P (take n all) (getD all n blank)) same this)
+            (cases-lt (length rs) i)
+        | Err f ↦ λ here rest. let z : _≡_ {A = ℕ} 0 1 = cc in absurd (omega arith)
+      ]) refl e
+
+  pub all-read : (ls : List Line) (all : List Record) → readRest o text [] ls ≡ Ok all → (i : ℕ) → i < length all → P (take i all) (getD all i blank)
+  all-read ls all e i h = from-here ls [] all e i (omega arith) h
 
 -- the records of a text
 pub all-roomy : (o : Written) (text : List ℕ) (ls : List Line) (all : List Record) → readRest o text [] ls ≡ Ok all → Roomy all
-all-roomy o text ls all e i h = rooms o text ls [] all e i (omega arith) h
+all-roomy o text ls all e i h = all-read o text (λ rs r. hasRoom rs r ≡ true) (next-room o text) ls all e i h
 
 room-length : (rs : List Record) (r : Record) → hasRoom rs r ≡ true → length rs < 800
 room-length rs r h = search needs

@@ -22,12 +22,7 @@ use Rattle.tasks.specs.Roomy.{Roomy}
 use Rattle.text.specs.Text.{lines}
 use Rattle.tasks.specs.Threads.{threadsIn}
 use Rattle.plan.proofs.Blanks.{threads-blanks}
-use Rattle.plan.proofs.Rooms.{all-roomy, let-through, roomy-blank, roomy-length}
-
--- the steps of a chain that went through
-and-ok : {A B E : Type 0} (v : Result A E) (f : A → Result B E) (y : B) → andThen v f ≡ Ok y → (x : A) × (v ≡ Ok x) × (f x ≡ Ok y)
-and-ok (Ok x) f y e = (x, refl, e)
-and-ok (Err c) f y e = let z : _≡_ {A = ℕ} 0 1 = cc in absurd (omega arith)
+use Rattle.plan.proofs.Rooms.{all-roomy, and-ok, let-through, roomy-blank, roomy-length}
 
 finished-few : (rs : List Record) (tasks : List TaskRow) → finished rs tasks ≡ Ok tt → length (threadsIn rs tasks) ≤ 64
 finished-few rs tasks e =
@@ -66,6 +61,26 @@ first-records rs sheet few long is =
     ∙ sym (append-assoc rs front (replicate (n - 800) blank)))
     ∙ take-at (rs ++ front) (replicate (n - 800) blank) 800 size
 
+-- the records of the lines of a text that was read
+pub record Lines (o : Written) (text : List ℕ) (sheet : List Record) : Type 0 where
+  pub records : List Record
+  pub read : readRest o text [] (lines text) ≡ Ok records
+  pub done : finished records (tasksOf records) ≡ Ok tt
+  pub few : length records ≤ 800
+  pub long : 800 ≤ length sheet
+  pub first : recordsIn sheet ≡ records ++ replicate (800 - length records) blank
+
+pub lines-shown : (o : Written) (text : List ℕ) (sheet : List Record) → Shows (reading o text (length sheet)) sheet → Lines o text sheet
+lines-shown o text sheet s =
+    let a = shows-cond (leb (length text) 32768) _ _ sheet s in
+    let b = shows-cond (leb 800 (length sheet)) _ _ sheet (a .1) in
+    let long : 800 ≤ length sheet = leb-true _ _ (b .0) in
+    let c = lines-read (readRest o text [] (lines text)) sheet (b .1) in
+    let rs : List Record = c .0 in
+    let d = ended-shown rs sheet (c .2) in
+    let few = roomy-length rs (all-roomy o text (lines text) rs (c .1)) in
+    record { records = rs; read = c .1; done = d .0; few = few; long = long; first = first-records rs sheet few long (d .1) }
+
 pub record Whole (sheet : List Record) : Type 0 where
   pub long : 800 ≤ length sheet
   pub roomy : Roomy (recordsIn sheet)
@@ -73,19 +88,12 @@ pub record Whole (sheet : List Record) : Type 0 where
 
 pub whole : (o : Written) (text : List ℕ) (sheet : List Record) → Shows (reading o text (length sheet)) sheet → Whole sheet
 whole o text sheet s =
-    let a = shows-cond (leb (length text) 32768) _ _ sheet s in
-    let b = shows-cond (leb 800 (length sheet)) _ _ sheet (a .1) in
-    let long : 800 ≤ length sheet = leb-true _ _ (b .0) in
-    let c = lines-read (readRest o text [] (lines text)) sheet (b .1) in
-    let rs : List Record = c .0 in
-    let d = ended-shown rs sheet (c .2) in
-    let room : Roomy rs = all-roomy o text (lines text) rs (c .1) in
-    let few = roomy-length rs room in
+    let l = lines-shown o text sheet s in
+    let rs = l .records in
     let n : ℕ = 800 - length rs in
-    let first = first-records rs sheet few long (d .1) in
-    let counts = finished-few rs (tasksOf rs) (d .0) in
+    let counts = finished-few rs (tasksOf rs) (l .done) in
     record {
-      long = long;
-      roomy = subst Roomy (sym first) (roomy-blank rs n room (omega (arith, few)));
-      few-threads = subst (λ xs. length xs ≤ 64) (sym (ap (λ xs. threadsIn xs (tasksOf xs)) first ∙ threads-blanks rs n)) counts;
+      long = l .long;
+      roomy = subst Roomy (sym (l .first)) (roomy-blank rs n (all-roomy o text (lines text) rs (l .read)) (omega (arith, l .few)));
+      few-threads = subst (λ xs. length xs ≤ 64) (sym (ap (λ xs. threadsIn xs (tasksOf xs)) (l .first) ∙ threads-blanks rs n)) counts;
     }

@@ -6,8 +6,10 @@ ghost use Rattle.std.specs.shelf.Maps.{nth};
 ghost use Rattle.reader.specs.Reading.{reading, Shows};
 ghost use Rattle.tasks.specs.Crew.{threadList};
 ghost use Rattle.plan.specs.Made.{Made};
+ghost use Rattle.plan.specs.Meaning.{Meant};
 ghost use Rattle.plan.specs.Plans.{WasRead, planThreads, planMoves, planSends};
 use records::Record;
+use records::WaitOrder;
 use records::WrittenOrder;
 use records::limits::MOST_LINES;
 use tasks::Lists;
@@ -102,5 +104,13 @@ impl<'a> Plan<'a> {
         ensures { λ r. ⌜ r ≡ planSends (now (self .entry) .sheet .now) ⌝ }
     {
         self.sends
+    }
+
+    // What the plan means under a wait order: a sound program by task, within the limits of a text, whose threads, moves
+    // and sends are those that the plan counts.
+    pub fn meaning<O: WaitOrder>(&self) -> u8
+        ensures { λ _. ⌜ Meant (O·WaitOrder .made) (now (self .entry) .sheet .now) ⌝ }
+    {
+        0
     }
 }
