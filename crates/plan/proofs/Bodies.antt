@@ -24,7 +24,6 @@ use Rattle.plan.specs.Program.{isChannel, noObject}
 use Rattle.plan.proofs.Leadings.{TaskLine, by-run, by-task, front-length, leading-at, task-line, tasksBy}
 use Rattle.plan.proofs.Sections.{count-no-task, operation-letter, operation-no-task}
 
-
 -- operation p of task k: the record at some index, after k + 1 T lines
 pub record Stands (rs : List Record) (k p : ℕ) : Type 0 where
   pub at : ℕ
@@ -64,9 +63,10 @@ joined-append f (x ∷ xs) ys = ap (λ zs. f x ++ zs) (joined-append f xs ys) �
 
 pub uses-whole : (rs : List Record) (i : ℕ) (b : Bool) (x : ℕ) → Uses (take i rs) b x → Uses rs b x
 uses-whole rs i b x u =
-    let split : objectsOf rs ≡ objectsOf (take i rs) ++ objectsOf (drop i rs) = ap objectsOf (sym (take-append-drop i rs)) ∙ joined-append objectsIn (take i rs) (drop i rs) in
-    (omega (arith, u .0, ap length split, length-append (objectsOf (take i rs)) (objectsOf (drop i rs))),
-    ap (λ (o : ObjectRow). isChannel (o .kind)) (ap (λ os. getD os x noObject) split ∙ getD-append-left (objectsOf (take i rs)) (objectsOf (drop i rs)) noObject x (u .0)) ∙ u .1)
+    let split : objectsOf rs ≡ objectsOf (take i rs) ++ objectsOf (drop i rs) = ap objectsOf (sym (take-append-drop i rs)) ∙ joined-append objectsIn (take i rs) (drop i rs) in (
+      omega (arith, u .0, ap length split, length-append (objectsOf (take i rs)) (objectsOf (drop i rs))),
+      ap (λ (o : ObjectRow). isChannel (o .kind)) (ap (λ os. getD os x noObject) split ∙ getD-append-left (objectsOf (take i rs)) (objectsOf (drop i rs)) noObject x (u .0)) ∙ u .1,
+    )
 
 -- there are at most 32 objects, and a task has at most 512 operations
 

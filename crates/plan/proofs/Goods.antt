@@ -107,8 +107,12 @@ module _ (text : List ℕ) (rs : List Record) where
       let rows = take n (tasksOf rs) in
       let places : List (ℕ × ℕ) = map (λ (t : TaskRow). (t .start, t .size)) rows in
       let found = option-ok (taskNamed rows (before text rs) p) Unknown x e in
-      omega (arith, first-below (named text (bytesAt text p)) places 0 x found, length-map {B = ℕ × ℕ} rows (λ (t : TaskRow). (t .start, t .size)),
-      length-take-le n (tasksOf rs) (omega arith))
+      omega (
+        arith,
+        first-below (named text (bytesAt text p)) places 0 x found,
+        length-map {B = ℕ × ℕ} rows (λ (t : TaskRow). (t .start, t .size)),
+        length-take-le n (tasksOf rs) (omega arith),
+      )
 
   number-between : (l : Line) (n : ℕ) (range : Range) (z : ℤ) → numberAt text l n range ≡ Ok z → Between (range .low) (range .high) z
   number-between l n range z e = between (range .low) (range .high) _ z (option-ok _ Form z e)

@@ -71,12 +71,19 @@ count-inner r e = count-letter Inner (record { nothing = refl; header = refl; ob
 
 pub operation-inner : (r : Record) → isOperation r ≡ true → Inner (r .letter)
 operation-inner r e =
-    operation-letter Inner
-    (record { nothing = refl; header = refl; objects = refl; carries = refl },
-    (record { nothing = refl; header = refl; objects = refl; carries = refl },
-    (record { nothing = refl; header = refl; objects = refl; carries = refl },
-    (record { nothing = refl; header = refl; objects = refl; carries = refl },
-    (record { nothing = refl; header = refl; objects = refl; carries = refl }, tt))))) r e
+    operation-letter Inner (
+      record { nothing = refl; header = refl; objects = refl; carries = refl },
+      (
+        record { nothing = refl; header = refl; objects = refl; carries = refl },
+        (
+          record { nothing = refl; header = refl; objects = refl; carries = refl },
+          (
+            record { nothing = refl; header = refl; objects = refl; carries = refl },
+            (record { nothing = refl; header = refl; objects = refl; carries = refl }, tt),
+          ),
+        ),
+      ),
+    ) r e
 
 after-inner : (p o w t q s : Bool) (c : ℕ) → Inner c
     → mayFollow (cond p Header (cond o Objects (cond w Carries (cond t Task (cond q Counts (cond s Operations Nothing)))))) c ≡ true

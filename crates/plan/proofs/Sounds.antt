@@ -120,9 +120,12 @@ module _ (rs : List Record) (C : Checked rs) where
         let body = bodyOf rs (tasksOf rs) (o .0) in
         let under : o .1 < length body = omega (arith, o .3, body-length rs (o .0)) in
         let s = stands rs (o .0) (o .1) (o .2) under in
-        let is : getD body (o .1) blank ≡ r = s .is ∙ ap (λ n. getD rs n blank) (s .place ∙ o .4) in
-        (o .0, o .1, o .2,
-        step-here body (o .1) under ∙ ap operation (ap opOf is ∙ start-op r (t .0) ∙ ap start (eqb-true (r .first) k (t .1))))
+        let is : getD body (o .1) blank ≡ r = s .is ∙ ap (λ n. getD rs n blank) (s .place ∙ o .4) in (
+          o .0,
+          o .1,
+          o .2,
+          step-here body (o .1) under ∙ ap operation (ap opOf is ∙ start-op r (t .0) ∙ ap start (eqb-true (r .first) k (t .1))),
+        )
 
     within : (i p : ℕ) (o : Op ℕ) → i < length (tasksOf rs) → step-at (map opOf (bodyOf rs (tasksOf rs) i)) p ≡ operation o → Within (programOf made rs) o
     within i p o h e =
