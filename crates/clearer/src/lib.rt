@@ -1,4 +1,6 @@
 // The wait orders, and the clearing of a plan.
+#![tactic(auto)]
+
 mod level;
 mod rank;
 mod samples;

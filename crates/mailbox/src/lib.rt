@@ -1,5 +1,7 @@
 // Mailboxes: for each object number from 0 to 31 a list of waiting messages, earliest first, and a room.
 // Two kinds, each over memory that the caller lends, proved against one contract.
+#![tactic(auto)]
+
 mod entry;
 mod kind;
 mod lanes;

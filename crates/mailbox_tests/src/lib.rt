@@ -1,4 +1,6 @@
 // Code over mailboxes of any kind, and tests of it at both kinds.
+#![tactic(auto)]
+
 ghost use Rattle.std.specs.Prelude.{◌≡◌};
 ghost use Rattle.mailbox_tests.specs.Alike.{Alike};
 

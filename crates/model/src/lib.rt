@@ -1,5 +1,7 @@
 // What holds of every run: of every program, under every wait order and with every kind of mailbox.
 // Each function here has a theorem for its contract; `specs/` says what its words mean.
+#![tactic(auto)]
+
 ghost use Rattle.model.specs.Accounts.{AccountLaw};
 ghost use Rattle.model.specs.Example.{HoistRuns, DeepThreads};
 ghost use Rattle.model.specs.History.{OpeningLaw};

@@ -1,4 +1,6 @@
 // Reads a plan from standard input, and writes what the library says of it.
+#![tactic(auto)]
+
 ghost use Rattle.std.specs.Prelude.{◌≤◌, length, IfOk};
 
 use clearer::{Rank, Zone};

@@ -1,4 +1,6 @@
 // Reading a plan text into a sheet of records, and checking a sheet against its text.
+#![tactic(auto)]
+
 mod finish;
 mod forms;
 mod header;

@@ -1,4 +1,6 @@
 // Examples of the reader, run as tests: what a text is answered under RANK.
+#![tactic(auto)]
+
 use clearer::Rank;
 use reader::read;
 use records::BLANK;

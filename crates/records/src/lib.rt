@@ -1,4 +1,6 @@
 // The words of the reader: records, rows of objects and tasks with their lookup, faults, limits, and wait orders.
+#![tactic(auto)]
+
 mod fault;
 pub mod limits;
 mod lookup;

@@ -1,4 +1,6 @@
 // What records declare and start: the lists of their objects and tasks, and the threads of a plan.
+#![tactic(auto)]
+
 mod crew;
 mod lists;
 mod parts;

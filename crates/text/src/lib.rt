@@ -1,4 +1,6 @@
 // The text layer of a plan: bytes, lines, fields, names and numbers. Every call takes any text.
+#![tactic(auto)]
+
 mod bytes;
 mod fields;
 mod lines;
