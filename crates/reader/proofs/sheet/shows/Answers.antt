@@ -14,9 +14,9 @@ use Rattle.reader.proofs.sheet.shows.Goals as goal
 use Rattle.reader.proofs.sheet.shows.Goals.{After-finish, In-Ok}
 
 -- the step, in the words of the invariant
-stepped : (g : given.Over) (c : In-Ok g) → Stepped g.O.WrittenOrder.written c.args.text.now (take c.loop-line.count c.args.sheet.now) c.in-Some.line c.read-step.new.lists c.in-Ok.row
+stepped : (g : given.Over) (c : In-Ok g) → Stepped g.O.WrittenOrder.written c.args.text.now (take c.loop-line.count c.args.sheet.now) c.in-Some.line c.read_step.new.lists c.in-Ok.row
 stepped g c =
-    subst (λ rs. Stepped g.O.WrittenOrder.written c.args.text.now rs c.in-Some.line c.read-step.new.lists c.in-Ok.row)
+    subst (λ rs. Stepped g.O.WrittenOrder.written c.args.text.now rs c.in-Some.line c.read_step.new.lists c.in-Ok.row)
     (front-is c.args.sheet.now c.loop-line.count) c.in-Ok.ensures
 
 -- a record was read: the lines after this one go on from it
@@ -70,26 +70,26 @@ returns-then-not-same g c =
 whole : (g : given.Over) (c : After-finish g) → read_lines g.O.WrittenOrder.written c.args.text.now ≡ ended (take c.loop-line.count c.args.sheet.now)
 whole g c =
     let rs = take c.loop-line.count c.args.sheet.now in
-    lines-ended g.O.WrittenOrder.written c.args.text.now rs (c.loop-line.invariant.1 ∙ ap (read_rest g.O.WrittenOrder.written c.args.text.now rs) c.in-default.ensures)
+    lines-ended g.O.WrittenOrder.written c.args.text.now rs (c.loop-line.invariant.1 ∙ ap (read_rest g.O.WrittenOrder.written c.args.text.now rs) c.in_default.ensures)
 
 done : (g : given.Over) (c : After-finish g) → c.finish.result ≡ finished (take c.loop-line.count c.args.sheet.now) (tasks_of (take c.loop-line.count c.args.sheet.now))
 done g c = c.finish.ensures ∙ ap (λ xs. finished xs (tasks_of xs)) (front-is c.args.sheet.now c.loop-line.count)
 
-pub returns-then-is-ok : goal.returns-then-is-ok
-returns-then-is-ok g c =
+pub returns-then-is_ok : goal.returns-then-is_ok
+returns-then-is_ok g c =
     let sheet = c.args.sheet.now in
     let count = c.loop-line.count in
-    let a = (goal.at.returns-then-is-ok g c).After-finish in
-    let ok : is_ok c.finish.result ≡ true = sym c.is-ok.ensures.value ∙ c.if-is-ok.true in
-    decides_rest sheet _ count c.is-blank.result _ (omega (arith, c.loop-line.invariant.0, c.requires)) (whole g a ∙ ended_ok (take count sheet) c.finish.result (done g a) ok)
-    (take_rest sheet count) c.is-blank.ensures
+    let a = (goal.at.returns-then-is_ok g c).After-finish in
+    let ok : is_ok c.finish.result ≡ true = sym c.is_ok.ensures.value ∙ c.if-is_ok.true in
+    decides_rest sheet _ count c.is_blank.result _ (omega (arith, c.loop-line.invariant.0, c.requires)) (whole g a ∙ ended_ok (take count sheet) c.finish.result (done g a) ok)
+    (take_rest sheet count) c.is_blank.ensures
 
-pub returns-else-is-ok : goal.returns-else-is-ok
-returns-else-is-ok g c =
+pub returns-else-is_ok : goal.returns-else-is_ok
+returns-else-is_ok g c =
     let sheet = c.args.sheet.now in
     let rs = take c.loop-line.count sheet in
-    let a = (goal.at.returns-else-is-ok g c).After-finish in
-    let bad : is_ok c.finish.result ≡ false = sym c.is-ok.ensures.value ∙ c.if-is-ok.false in
+    let a = (goal.at.returns-else-is_ok g c).After-finish in
+    let bad : is_ok c.finish.result ≡ false = sym c.is_ok.ensures.value ∙ c.if-is_ok.false in
     let no-sheet : Shows (read_lines g.O.WrittenOrder.written c.args.text.now) sheet → ⊥ =
     λ shown. ended-fault rs c.finish.result sheet (done g a) bad (subst (λ v. Shows v sheet) (whole g a) shown) in
-    subst (λ b. Decides b (Shows (read_lines g.O.WrittenOrder.written c.args.text.now) sheet)) (sym c.if-is-ok.false) (decides_no no-sheet)
+    subst (λ b. Decides b (Shows (read_lines g.O.WrittenOrder.written c.args.text.now) sheet)) (sym c.if-is_ok.false) (decides_no no-sheet)

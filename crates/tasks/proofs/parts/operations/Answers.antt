@@ -14,14 +14,14 @@ returns-then-line-records c =
     c.rest.ensures ∙ drop_all line rs (omega arith)
     ∙ sym (ap (front is_operation) (drop_all (line + prefix_len is_count (drop line rs)) rs (omega arith)))
 
-pub overflow-add-from : goal.overflow-add-from
-overflow-add-from c =
+pub overflow_add-from : goal.overflow_add-from
+overflow_add-from c =
     let rs = c.args.records.now in
     let line = c.args.task.line in
     let few = prefix_len-le-length is_count (drop line rs) in
     let size = length-drop line rs in
-    let same : c.leading-counts.result ≡ prefix_len is_count (drop line rs) = c.leading-counts.ensures ∙ ap (prefix_len is_count) c.rest-2.ensures in
+    let same : c.leading_counts.result ≡ prefix_len is_count (drop line rs) = c.leading_counts.ensures ∙ ap (prefix_len is_count) c.rest-2.ensures in
     search rules
 
-pub slice-bounds-result-end : goal.slice-bounds-result-end
-slice-bounds-result-end c = let few = prefix_len-le-length is_operation c.rest-body.result.now in let same = c.leading-operations-count.ensures in search rules
+pub slice_bounds-result-end : goal.slice_bounds-result-end
+slice_bounds-result-end c = let few = prefix_len-le-length is_operation c.rest-body.result.now in let same = c.leading_operations-count.ensures in search rules

@@ -9,6 +9,6 @@ use Rattle.tasks.proofs.parts.sends_of.Goals as goal
 pub returns : goal.returns
 returns c =
     record {
-      count = c.count-sends.ensures.count ∙ ap (count_by is_send) c.body-of.ensures;
-      few = omega (arith, c.count-sends.ensures.few, ap length c.body-of.ensures, body_short c.args.records.now c.args.tasks.now c.args.k);
+      count = c.count_sends.ensures.count ∙ ap (count_by is_send) c.body_of.ensures;
+      few = omega (arith, c.count_sends.ensures.few, ap length c.body_of.ensures, body_short c.args.records.now c.args.tasks.now c.args.k);
     }

@@ -2,8 +2,8 @@ use Rattle.std.proofs.Common.{◌≡◌, ◌+◌, ◌++◌, length, take, drop}
 use Rattle.tasks.specs.Threads.{body_of, brought, crew}
 use Rattle.tasks.proofs.threads.+number_threads.Given as goal
 
-abbrev pub decreases-number-threads : goal.decreases-number-threads
-decreases-number-threads l = l.task
+abbrev pub decreases-number_threads : goal.decreases-number_threads
+decreases-number_threads l = l.task
 
 -- what was written and what is left make the numbering
 abbrev pub invariant-loop-row : goal.invariant-loop-row

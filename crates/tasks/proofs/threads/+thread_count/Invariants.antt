@@ -2,8 +2,8 @@ use Rattle.std.proofs.Common.{◌≡◌, ◌+◌, ◌≤◌, length, drop}
 use Rattle.tasks.specs.Threads.{body_of, brought, crew}
 use Rattle.tasks.proofs.threads.+thread_count.Given as goal
 
-abbrev pub decreases-thread-count : goal.decreases-thread-count
-decreases-thread-count l = l.task
+abbrev pub decreases-thread_count : goal.decreases-thread_count
+decreases-thread_count l = l.task
 
 -- what was counted and what is left make the threads of the task
 abbrev pub invariant-loop-row : goal.invariant-loop-row

@@ -4,4 +4,4 @@ use Rattle.text.proofs.fields.field.Given as goal
 
 -- the field is `number - k` fields further on
 abbrev pub invariant-loop-k : goal.invariant-loop-k
-invariant-loop-k l = get_or (fields_from l.start l.bytes 0) l.number nowhere ≡ get_or (fields_from l.start l.bytes l.at) (l.number - l.-k) nowhere
+invariant-loop-k l = get_or (fields_from l.start l.bytes 0) l.number nowhere ≡ get_or (fields_from l.start l.bytes l.at) (l.number - l._k) nowhere

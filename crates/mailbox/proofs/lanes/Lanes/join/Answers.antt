@@ -6,24 +6,24 @@ use Rattle.mailbox.proofs.Rooms.{roomy_low, roomy-put}
 use Rattle.mailbox.proofs.Rings.{not_full, next_index, joined_list, joined-others, fills_more}
 use Rattle.mailbox.proofs.lanes.Lanes.join.Goals as goal
 
-pub in-memory-i-requires : goal.in-memory-i-requires
-in-memory-i-requires g c =
+pub in_memory-i-requires : goal.in_memory-i-requires
+in_memory-i-requires g c =
     let s = c.args.self.now in
     let ch = c.args.channel in
     let low = roomy_low ch (length s.memory.now / 32 - length (lanes_waiting s ch)) c.requires in
     let full = not_full s.memory.now s.size s.heads s.counts ch s.cut s.starts s.fills c.requires in
     let there : ch < length s.counts = search rules in
-    let k = next_index s.memory.now s.size s.heads s.counts ch low s.cut there (s.starts ch low) full c.next-place-place.result (ch * s.size + c.next-place-place.result) c.next-place-place.ensures refl in
+    let k = next_index s.memory.now s.size s.heads s.counts ch low s.cut there (s.starts ch low) full c.next_place-place.result (ch * s.size + c.next_place-place.result) c.next_place-place.ensures refl in
     search rules
 
-pub offset-bounds-self-i : goal.offset-bounds-self-i
-offset-bounds-self-i g c =
+pub offset_bounds-self-i : goal.offset_bounds-self-i
+offset_bounds-self-i g c =
     let s = c.args.self.now in
     let ch = c.args.channel in
     let low = roomy_low ch (length s.memory.now / 32 - length (lanes_waiting s ch)) c.requires in
     let full = not_full s.memory.now s.size s.heads s.counts ch s.cut s.starts s.fills c.requires in
     let there : ch < length s.counts = search rules in
-    let k = next_index s.memory.now s.size s.heads s.counts ch low s.cut there (s.starts ch low) full c.next-place-place.result c.in-memory-i.result c.next-place-place.ensures c.in-memory-i.ensures in
+    let k = next_index s.memory.now s.size s.heads s.counts ch low s.cut there (s.starts ch low) full c.next_place-place.result c.in_memory-i.result c.next_place-place.ensures c.in_memory-i.ensures in
     search rules
 
 pub bounds-self-i : goal.bounds-self-i
@@ -33,30 +33,34 @@ bounds-self-i g c =
     let low = roomy_low ch (length s.memory.now / 32 - length (lanes_waiting s ch)) c.requires in
     let full = not_full s.memory.now s.size s.heads s.counts ch s.cut s.starts s.fills c.requires in
     let there : ch < length s.counts = search rules in
-    next_index s.memory.now s.size s.heads s.counts ch low s.cut there (s.starts ch low) full c.next-place-place.result c.in-memory-i.result c.next-place-place.ensures c.in-memory-i.ensures
+    next_index s.memory.now s.size s.heads s.counts ch low s.cut there (s.starts ch low) full c.next_place-place.result c.in_memory-i.result c.next_place-place.ensures c.in_memory-i.ensures
 
-pub invariant-of-self : goal.invariant-of-self
-invariant-of-self g c =
+pub invariant_of-self : goal.invariant_of-self
+invariant_of-self g c =
     let s = c.args.self.now in
     let ch = c.args.channel in
     let low = roomy_low ch (length s.memory.now / 32 - length (lanes_waiting s ch)) c.requires in
     let full = not_full s.memory.now s.size s.heads s.counts ch s.cut s.starts s.fills c.requires in
     let there : ch < length s.counts = search rules in
-    (s.cut ∙ ap (λ n. n / 32) (sym (length-set s.memory.now c.in-memory-i.result c.args.message)), (s.starts, (fills_more s.size s.counts ch there full s.fills, tt)))
+    record {
+      cut = s.cut ∙ ap (λ n. n / 32) (sym (length-set s.memory.now c.in_memory-i.result c.args.message));
+      starts = s.starts;
+      fills = fills_more s.size s.counts ch there full s.fills;
+    }
 
 pub returns : goal.returns
 returns g c =
     let s = c.args.self.now in
     let ch = c.args.channel in
     let m = c.args.message in
-    let i = c.in-memory-i.result in
+    let i = c.in_memory-i.result in
     let xs = s.memory.now in
     let low = roomy_low ch (length xs / 32 - length (lanes_waiting s ch)) c.requires in
     let full = not_full xs s.size s.heads s.counts ch s.cut s.starts s.fills c.requires in
     let there : ch < length s.counts = search rules in
     let more : List ℕ = set s.counts ch (get_or s.counts ch 0 + 1) in
-    let joined = joined_list xs s.size s.heads s.counts ch low s.cut there (s.starts ch low) full c.next-place-place.result i c.next-place-place.ensures c.in-memory-i.ensures m in
-    let others = joined-others xs s.size s.heads s.counts ch low s.cut there (s.starts ch low) full c.next-place-place.result i c.next-place-place.ensures c.in-memory-i.ensures m (get_or s.counts ch 0 + 1) in
+    let joined = joined_list xs s.size s.heads s.counts ch low s.cut there (s.starts ch low) full c.next_place-place.result i c.next_place-place.ensures c.in_memory-i.ensures m in
+    let others = joined-others xs s.size s.heads s.counts ch low s.cut there (s.starts ch low) full c.next_place-place.result i c.next_place-place.ensures c.in_memory-i.ensures m (get_or s.counts ch 0 + 1) in
     record {
       put = record {
         joined = joined;

@@ -4,14 +4,12 @@ use Rattle.mailbox.proofs.Rings.{all_zero, waits-none}
 use Rattle.mailbox.specs.Ring.{waits}
 use Rattle.mailbox.proofs.lanes.Lanes.new.Goals as goal
 
-pub invariant-of-result : goal.invariant-of-result
-invariant-of-result g c = (
-  refl,
-  (
-    (λ k h. let z = all_zero c.zeros.result c.zeros.ensures k in omega (arith, z)),
-    ((λ k h. let z = all_zero c.zeros-2.result c.zeros-2.ensures k in omega (arith, z)), tt),
-  ),
-)
+pub invariant_of-result : goal.invariant_of-result
+invariant_of-result g c = record {
+  cut = refl;
+  starts = λ k h. let z = all_zero c.zeros.result c.zeros.ensures k in omega (arith, z);
+  fills = λ k h. let z = all_zero c.zeros-2.result c.zeros-2.ensures k in omega (arith, z);
+}
 
 pub returns : goal.returns
 returns g c =

@@ -36,8 +36,8 @@ loop-i-preserved g c =
       λ k e h. let ne : k ≢ q = omega arith in get_or-set_other N q k x e ne ∙ c.loop-i.invariant.3 k e (omega arith),
     )
 
-pub invariant-of-self : goal.invariant-of-self
-invariant-of-self g c =
+pub invariant_of-self : goal.invariant_of-self
+invariant_of-self g c =
     let s = c.loop-i.self in
     let i = c.loop-i.i in
     let d = c.index-self-i.result in
@@ -46,4 +46,7 @@ invariant-of-self g c =
     let count = c.loop-i.invariant.0 in
     let lt : i < length s.memory.now = omega arith in
     let l = length-set s.memory.now i x in
-    (omega (arith, l), (filed_over s.count s.memory.now i x lt s.filed (s.filed (i + 1) d (omega arith)), tt))
+    record {
+      fits = omega (arith, l);
+      filed = filed_over s.count s.memory.now i x lt s.filed (s.filed (i + 1) d (omega arith));
+    }

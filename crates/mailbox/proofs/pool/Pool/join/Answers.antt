@@ -13,8 +13,8 @@ bounds-self-place g c =
     let free = roomy_has c.args.channel (length s.memory.now - together (λ d. pool_waiting s d)) c.requires in
     omega (arith, all, free)
 
-pub invariant-of-self : goal.invariant-of-self
-invariant-of-self g c =
+pub invariant_of-self : goal.invariant_of-self
+invariant_of-self g c =
     let s = c.args.self.now in
     let xs = s.memory.now in
     let x = told c.args.channel c.args.message in
@@ -23,7 +23,10 @@ invariant-of-self g c =
     let free = roomy_has c.args.channel (length xs - together (λ d. pool_waiting s d)) c.requires in
     let lt : s.count < length xs = omega (arith, all, free) in
     let l = length-set xs s.count x in
-    (omega (arith, l, lt), (filed_put s.count xs x lt s.filed low, tt))
+    record {
+      fits = omega (arith, l, lt);
+      filed = filed_put s.count xs x lt s.filed low;
+    }
 
 pub returns : goal.returns
 returns g c =

@@ -6,12 +6,12 @@ use Rattle.mailbox.proofs.pool.Pool.leave.Goals as goal
 pub returns : goal.returns
 returns g c =
     let s = c.args.self.now in
-    let t = c.close-gap.new.self in
+    let t = c.close_gap.new.self in
     let d = c.index-self-place.result in
     let i = c.args.place in
     let low = c.requires.0 in
     let found = c.requires.1 in
-    let gap = c.close-gap.ensures in
+    let gap = c.close_gap.ensures in
     let all = all-counted s.count s.memory.now s.fits s.filed in
     let all' = all-counted t.count t.memory.now t.fits t.filed in
     record {

@@ -12,8 +12,8 @@ use Rattle.plan.proofs.plan.Plan.new.Goals.{After-of}
 says : (g : given.Over) (c : After-of g) → Whole c.args.sheet.now
 says g c = whole g.O.WrittenOrder.written c.args.text.now c.args.sheet.now c.requires
 
-tasks : (g : given.Over) (c : After-of g) → c.task-rows-tasks.result.now ≡ tasks_of (records_in c.args.sheet.now)
-tasks g c = c.task-rows-tasks.ensures ∙ ap (λ (v : View). v.tasks) (c.of-lists.ensures (says g c).roomy)
+tasks : (g : given.Over) (c : After-of g) → c.task_rows-tasks.result.now ≡ tasks_of (records_in c.args.sheet.now)
+tasks g c = c.task_rows-tasks.ensures ∙ ap (λ (v : View). v.tasks) (c.of-lists.ensures (says g c).roomy)
 
 pub unreachable-requires : goal.unreachable-requires
 unreachable-requires g c =
@@ -21,10 +21,10 @@ unreachable-requires g c =
     let more = subst (λ ts. 64 < length (threads_in (records_in c.args.sheet.now) ts)) (tasks g a) c.in-None.ensures in
     omega (arith, more, (says g a).few-threads)
 
-pub invariant-of-result : goal.invariant-of-result
-invariant-of-result g c =
+pub invariant_of-result : goal.invariant_of-result
+invariant_of-result g c =
     let sheet = c.args.sheet.now in
-    let a = (goal.at.invariant-of-result g c).After-of in
+    let a = (goal.at.invariant_of-result g c).After-of in
     let w = says g a in
     let law = g.met.O.WrittenOrder.one_or_two in
     let rows : thread_list c.in-Some.threads ≡ plan_threads sheet = c.in-Some.ensures ∙ ap (threads_in (records_in sheet)) (tasks g a) in

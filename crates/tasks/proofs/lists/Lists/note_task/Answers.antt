@@ -10,6 +10,6 @@ returns-then-row-eq84 c =
     let l = c.args.self.now in
     let is = eq-eqb _ _ c.if-row-eq84.true in
     let less : l.task_count < length l.tasks = omega (arith, c.requires is, l.sizes.1) in
-    let rows = take_more_set l.tasks l.task_count c.task-row.result less in
+    let rows = take_more_set l.tasks l.task_count c.task_row.result less in
     ap (λ ts. view (object_list l) ts l.operations l.lines)
-    (rows ∙ ap (λ xs. task_list l ++ xs) (ap (λ x. x ∷ []) c.task-row.ensures ∙ sym (cond-true _ _ _ is)))
+    (rows ∙ ap (λ xs. task_list l ++ xs) (ap (λ x. x ∷ []) c.task_row.ensures ∙ sym (cond-true _ _ _ is)))

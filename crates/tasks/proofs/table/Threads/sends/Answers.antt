@@ -4,24 +4,24 @@ use Rattle.std.proofs.lemmas.List.Sums.{sum_by_more}
 use Rattle.tasks.specs.Threads.{sends_of}
 use Rattle.tasks.proofs.Crews.{all_more, one_more}
 use Rattle.tasks.proofs.table.Threads.sends.Goals as goal
-use Rattle.tasks.proofs.table.Threads.sends.Goals.{After-sends-of-n}
+use Rattle.tasks.proofs.table.Threads.sends.Goals.{After-sends_of-n}
 
-few : (c : After-sends-of-n) → c.loop-task.task-index < 64
+few : (c : After-sends_of-n) → c.loop-task.task-index < 64
 few c =
     let t = c.args.self.now in
     omega (arith, c.loop-task-test.true, ap length c.rows-rows.ensures, length-take-le t.count t.tasks (omega (arith, t.sizes)), t.sizes)
 
-pub overflow-add-n : goal.overflow-add-n
-overflow-add-n c =
-    let a = (goal.at.overflow-add-n c).After-sends-of-n in
-    let short : c.sends-of-n.result ≤ length c.args.records.now + 1 = omega (arith, c.sends-of-n.ensures.few) in
-    omega (arith, one_more c.loop-task.n c.loop-task.task-index (length c.args.records.now) _ c.loop-task.invariant.0 short, all_more c.loop-task.task-index (length c.args.records.now) (few a), c.well-formed)
+pub overflow_add-n : goal.overflow_add-n
+overflow_add-n c =
+    let a = (goal.at.overflow_add-n c).After-sends_of-n in
+    let short : c.sends_of-n.result ≤ length c.args.records.now + 1 = omega (arith, c.sends_of-n.ensures.few) in
+    omega (arith, one_more c.loop-task.n c.loop-task.task-index (length c.args.records.now) _ c.loop-task.invariant.0 short, all_more c.loop-task.task-index (length c.args.records.now) (few a), c.well_formed)
 
 pub loop-task-preserved : goal.loop-task-preserved
 loop-task-preserved c =
-    let short : c.sends-of-n.result ≤ length c.args.records.now + 1 = omega (arith, c.sends-of-n.ensures.few) in (
+    let short : c.sends_of-n.result ≤ length c.args.records.now + 1 = omega (arith, c.sends_of-n.ensures.few) in (
       one_more c.loop-task.n c.loop-task.task-index (length c.args.records.now) _ c.loop-task.invariant.0 short,
-      omega (arith, c.sends-of-n.ensures.count, c.loop-task.invariant.1, sum_by_more (sends_of c.args.records.now c.args.tasks.now) c.rows-rows.result.now c.loop-task.task-index 0 c.loop-task-test.true),
+      omega (arith, c.sends_of-n.ensures.count, c.loop-task.invariant.1, sum_by_more (sends_of c.args.records.now c.args.tasks.now) c.rows-rows.result.now c.loop-task.task-index 0 c.loop-task-test.true),
     )
 
 pub returns : goal.returns
