@@ -30,7 +30,11 @@ invariant_of-result g c =
     let rows : thread_list c.in-Some.threads ≡ plan_threads sheet = c.in-Some.ensures ∙ ap (threads_in (records_in sheet)) (tasks g a) in
     let rs = records_in sheet in
     let moves = c.moves-moves.ensures ∙ ap (λ ts. sum_by (moves_of rs ts) (thread_list c.in-Some.threads)) (tasks g a) ∙ ap (sum_by (moves_of rs (tasks_of rs))) rows in
-    let sends = c.sends-sends.ensures ∙ ap (λ ts. sum_by (sends_of rs ts) (thread_list c.in-Some.threads)) (tasks g a) ∙ ap (sum_by (sends_of rs (tasks_of rs))) rows in (
-      ∣ (g.O.WrittenOrder.written, law.0, law.1, c.requires) ∣₁,
-      (w.long, (∣ record { listed = c.of-lists.ensures w.roomy; crew = rows } ∣₁, (ap length rows, ((moves, sends), tt)))),
-    )
+    let sends = c.sends-sends.ensures ∙ ap (λ ts. sum_by (sends_of rs ts) (thread_list c.in-Some.threads)) (tasks g a) ∙ ap (sum_by (sends_of rs (tasks_of rs))) rows in
+    record {
+      read = ∣ (g.O.WrittenOrder.written, law.0, law.1, c.requires) ∣₁;
+      long = w.long;
+      made = ∣ record { listed = c.of-lists.ensures w.roomy; crew = rows } ∣₁;
+      count = ap length rows;
+      counts = (moves, sends);
+    }
