@@ -1,8 +1,8 @@
 -- Laws of lanes and rings. Assumes nothing.
-use Rattle.std.proofs.Common.{◌≡◌, ℕ, zero, suc, ◌+◌, ◌-◌, ◌*◌, ◌/◌, ◌<◌, ◌≤◌, min, Bool, true, false, cond, ltb, ◌≢◌, ◌⊎◌, List, [], ◌∷◌, ◌++◌, length, get_or, take, drop, set, replicate, sym, refl, ap, ◌∙◌, subst, inl, inr, ⊎_elim, mul-le-mul_right, add-mul, one-mul, add-one, arith}
+use Rattle.std.proofs.Common.{◌≡◌, ℕ, zero, suc, ◌+◌, ◌-◌, ◌*◌, ◌/◌, ◌<◌, ◌≤◌, cond, ltb, ◌⊎◌, List, [], ◌∷◌, ◌++◌, length, get_or, take, drop, set, replicate, sym, refl, ap, ◌∙◌, subst, inl, inr, ⊎_elim, mul-le-mul_right, add-mul, one-mul, add-one, arith}
 use native.Mathlib.Nat.{mul-div-le}
 use lib.Seq.{take-set-lt}
-use Rattle.std.proofs.lemmas.List.{length-take, length-drop, length-append, length-set, take-set-le, drop-set-lt, drop-set-add, set-append_left, set-append_right, take_more_set, take_more, drop_more, take-append-le, take_all, drop_all, append-nil, append_assoc, get_or-set_same, get_or-set_other, get_or-drop, get_or-take, get_or_read}
+use Rattle.std.proofs.lemmas.List.{length-take, length-drop, length-append, take-set-le, drop-set-lt, drop-set-add, set-append_left, set-append_right, take_more_set, take_more, drop_more, take-append-le, take_all, drop_all, append-nil, append_assoc, get_or-set_same, get_or-set_other, get_or-drop, get_or-take}
 use Rattle.std.proofs.lemmas.Bool.{lt-ltb, le-ltb, cases_lt, cases_eq, cases_order}
 use Rattle.mailbox.proofs.Rooms.{cond_same, roomy_low, roomy_has}
 use Rattle.mailbox.specs.Ring.{lane, turned, waits, around}

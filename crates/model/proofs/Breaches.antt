@@ -1,5 +1,5 @@
 -- What is legal breaks no rule, and what breaks none is legal. Assumes nothing.
-use Rattle.std.proofs.Common.{◌≡◌, ℕ, zero, suc, ◌<◌, ◌≤◌, Bool, true, false, cond, not, ◌&&◌, ◌||◌, T, List, [], ◌∷◌, length, ℤ, pos, ◌≤ℤ◌, Some, None, Option, sym, refl, ap, ◌∙◌, subst, inl, inr, arith}
+use Rattle.std.proofs.Common.{◌≡◌, ℕ, zero, suc, ◌<◌, ◌≤◌, Bool, true, false, cond, not, ◌&&◌, ◌||◌, T, List, [], ◌∷◌, length, pos, ◌≤ℤ◌, Some, None, Option, sym, refl, ap, ◌∙◌, subst, inl, inr, arith}
 use lib.Signed.{le_z, lt_z}
 use Rattle.model.specs.Program.{Op, send, receive, acquire, release, start, Account, Locks, Program, Step, operation, closing, step_at}
 use Rattle.model.specs.Rules.{Offence, first_number_from, breaks, or_else, owes, busy, account_at, locks_at, unsettled, bars, breach, offence, Cleared}

@@ -1,6 +1,6 @@
 -- Wait orders; what an operation does to the account and the locks of its thread; which rule it breaks; and when a
 -- program is cleared. Assumes nothing.
-use Rattle.std.specs.Prelude.{◌≡◌, ℕ, zero, suc, ◌<◌, ◌≤◌, Bool, true, false, cond, not, ◌&&◌, ◌||◌, T, length, ℤ, pos, ◌+ℤ◌, ◌-ℤ◌, Some, None, Option, ◌==◌, int_le, int_lt}
+use Rattle.std.specs.Prelude.{◌≡◌, ℕ, zero, suc, ◌<◌, ◌≤◌, Bool, true, false, cond, not, ◌&&◌, ◌||◌, T, length, pos, ◌+ℤ◌, ◌-ℤ◌, Some, None, Option, ◌==◌, int_le, int_lt}
 use Rattle.model.specs.Program.{Op, send, receive, acquire, release, start, Account, Locks, Program, Step, operation, closing, step_at, after, same}
 
 -- A wait order says when one wait level is below another. Its two laws: no level is below itself; and if a is below b

@@ -1,8 +1,8 @@
 -- The operations of a task: where each stands, what it names, and how many there are.
-use Rattle.std.proofs.Common.{◌≡◌, ℕ, zero, suc, ◌+◌, ◌-◌, ◌<◌, ◌≤◌, Bool, true, false, cond, ◌&&◌, ◌⊎◌, List, [], ◌∷◌, ◌++◌, length, get_or, take, drop, codes, sym, refl, ap, ◌∙◌, subst, inl, inr, ⊎_elim, arith, rules}
+use Rattle.std.proofs.Common.{◌≡◌, ℕ, zero, suc, ◌+◌, ◌<◌, ◌≤◌, Bool, true, false, List, [], ◌∷◌, ◌++◌, length, get_or, take, drop, codes, sym, refl, ap, ◌∙◌, ⊎_elim, arith}
 use Rattle.std.specs.List.{flat_map, prefix_len}
-use Rattle.std.proofs.lemmas.List.{append_assoc, get_or_append_left, get_or-drop, get_or-take, length-append, length-drop, length_push, length-take-le, take_all, take-append-drop, take_more}
-use Rattle.std.proofs.lemmas.Bool.{and_parts, cases_Bool, cases_eq, cond-false, cond-true, ltb-true}
+use Rattle.std.proofs.lemmas.List.{append_assoc, get_or_append_left, get_or-drop, get_or-take, length-append, length-drop, length_push, take_all, take-append-drop, take_more}
+use Rattle.std.proofs.lemmas.Bool.{and_parts, cases_Bool, cond-false, cond-true, ltb-true}
 use Rattle.records.specs.declared.record.Record.{Record}
 use Rattle.records.specs.declared.rows.ObjectRow.{ObjectRow}
 use Rattle.tasks.specs.Records.{blank, has_room, is_count, is_object, is_operation, is_task, no_task, object_row, objects_in, objects_of, open_operations, tasks_of}
@@ -10,9 +10,9 @@ use Rattle.tasks.specs.Roomy.{Roomy}
 use Rattle.tasks.specs.Threads.{body_of, first_operation}
 use Rattle.tasks.proofs.Pushed.{objects_push, open_push}
 use Rattle.text.specs.Text.{one_of}
-use Rattle.plan.specs.Good.{Good, Uses}
+use Rattle.plan.specs.Good.{Uses}
 use Rattle.plan.specs.Program.{is_channel, no_object}
-use Rattle.plan.proofs.Leadings.{TaskLine, by_run, by_task, front_length, leading_at, task-line, tasks_by}
+use Rattle.plan.proofs.Leadings.{by_run, by_task, front_length, leading_at, task-line, tasks_by}
 use Rattle.plan.proofs.Sections.{count_no_task, operation_letter, operation_no_task}
 
 -- operation p of task k: the record at some index, after k + 1 T lines

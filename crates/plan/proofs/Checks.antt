@@ -1,7 +1,7 @@
 -- What the check of a sheet leaves true of its records, and that it leaves it true in one way.
-use Rattle.std.proofs.Common.{◌≡◌, ℕ, ◌+◌, ◌-◌, ◌<◌, ◌≤◌, Bool, true, false, cond, eqb, List, [], ◌∷◌, ◌++◌, length, get_or, take, drop, replicate, ℤ, pos, negsuc, ◌≤ℤ◌, Ok, Err, Result, sym, refl, ap, ◌∙◌, subst, ⊎_elim, arith}
+use Rattle.std.proofs.Common.{◌≡◌, ℕ, ◌+◌, ◌-◌, ◌<◌, ◌≤◌, Bool, true, false, cond, eqb, List, [], ◌∷◌, ◌++◌, length, get_or, take, drop, replicate, ℤ, pos, negsuc, ◌≤ℤ◌, Ok, Err, sym, refl, ap, ◌∙◌, subst, ⊎_elim, arith}
 use mathlib.Core.Bool.{Bool-set}
-use mathlib.Core.HLevel.{×_prop, ×₃_prop, →_prop, Π_prop, ⊥_prop}
+use mathlib.Core.HLevel.{×_prop, ×₃_prop, →_prop, ⊥_prop}
 use mathlib.Core.Logic.{∥∥₁_elim}
 use native.Mathlib.Bridge.{le_prop}
 use native.Mathlib.Nat.{ℕ_set}
@@ -15,7 +15,7 @@ use Rattle.records.specs.declared.record.Record.{Record}
 use Rattle.records.specs.declared.rows.TaskRow.{TaskRow}
 use Rattle.records.specs.Order.{Written}
 use Rattle.reader.specs.Lines.{last_task_line}
-use Rattle.reader.specs.Reading.{Shows, finished, is_start_of, main_without_counts, others_started, read_rest, reading, some_task, started_from}
+use Rattle.reader.specs.Reading.{Shows, finished, is_start_of, main_without_counts, others_started, reading, some_task, started_from}
 use Rattle.tasks.specs.Records.{blank, is_count, tasks_of}
 use Rattle.tasks.specs.Roomy.{Roomy}
 use Rattle.text.specs.Text.{lines, some}
@@ -24,7 +24,7 @@ use Rattle.plan.specs.Plans.{WasRead, records_in}
 use Rattle.plan.proofs.Blanks.{leading_from, tasks_blanks}
 use Rattle.plan.proofs.Goods.{all-good}
 use Rattle.plan.proofs.Rooms.{all-roomy, and_ok, let_through, roomy-blank}
-use Rattle.plan.proofs.Wholes.{Lines, lines-shown}
+use Rattle.plan.proofs.Wholes.{lines-shown}
 
 -- a test that refuses, refuses nothing that went through
 held : {A E : Type 0} (b : Bool) (x y : A) (f : E) → cond b (Err f) (Ok x) ≡ Ok y → b ≡ false

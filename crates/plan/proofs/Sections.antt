@@ -1,5 +1,5 @@
 -- The sections of a text: an operation stands among the operations of a task.
-use Rattle.std.proofs.Common.{◌≡◌, ℕ, zero, suc, ◌+◌, ◌-◌, ◌<◌, ◌≤◌, Bool, true, false, cond, eqb, ◌⊎◌, List, [], ◌∷◌, ◌++◌, length, get_or, take, drop, codes, sym, refl, ap, ◌∙◌, subst, inl, inr, ⊎_elim, arith}
+use Rattle.std.proofs.Common.{◌≡◌, ℕ, zero, suc, ◌+◌, ◌-◌, ◌<◌, Bool, true, false, cond, eqb, ◌⊎◌, List, [], ◌∷◌, length, get_or, take, drop, codes, sym, refl, ap, ◌∙◌, subst, inl, inr, ⊎_elim, arith}
 use Rattle.std.specs.List.{prefix_len, AllByRecursion as All}
 use Rattle.std.proofs.lemmas.List.{get_or-drop, get_or-take, length-drop, length-take-le}
 use Rattle.std.proofs.lemmas.List.Sums.{prefix_len-drop_no, prefix_len-drop_yes}
@@ -7,13 +7,12 @@ use Rattle.std.proofs.lemmas.Bool.{eqb-true, false≢true}
 use Rattle.records.specs.declared.record.Record.{Record}
 use Rattle.records.specs.declared.rows.TaskRow.{TaskRow}
 use Rattle.reader.specs.Lines.{may_follow, section_of}
-use Rattle.reader.specs.declared.section.Section.{Section}
 use Rattle.reader.specs.declared.section.Section.TheVariants.{Nothing, Header, Objects, Carries, Task, Counts, Operations}
 use Rattle.tasks.specs.Records.{blank, is_count, is_operation, is_task, last_letter, no_task, tasks_of}
-use Rattle.tasks.specs.Threads.{body_of, first_operation}
+use Rattle.tasks.specs.Threads.{first_operation}
 use Rattle.text.specs.Text.{byte, one_of}
 use Rattle.plan.specs.Good.{Good}
-use Rattle.plan.proofs.Leadings.{TaskLine, by_run, by_task, by_whole, front_length, leading_at, leading_on, leading_stops, row_here, task-line, tasks_by}
+use Rattle.plan.proofs.Leadings.{by_task, by_whole, leading_on, leading_stops, row_here, tasks_by}
 
 pub no : {A : Type 0} → false ≡ true → A
 no e = absurd (false≢true e)

@@ -1,22 +1,17 @@
 -- The program that checked records mean is sound, and within the limits of a text.
-use Rattle.std.proofs.Common.{◌≡◌, ℕ, zero, suc, ◌+◌, ◌-◌, ◌<◌, ◌≤◌, Bool, true, false, cond, ◌&&◌, T, eqb, List, [], ◌∷◌, map, length, get_or, take, drop, ℤ, pos, negsuc, ◌≤ℤ◌, codes, sym, refl, ap, ◌∙◌, subst, arith}
-use Rattle.std.specs.List.{prefix_len}
-use Rattle.std.proofs.lemmas.List.{get_or-drop, get_or-take, length-drop, length-map}
-use Rattle.std.proofs.lemmas.Int.{ints}
+use Rattle.std.proofs.Common.{◌≡◌, ℕ, zero, suc, ◌-◌, ◌<◌, Bool, true, false, cond, T, eqb, List, [], ◌∷◌, map, length, get_or, take, drop, ℤ, codes, sym, refl, ap, ◌∙◌, subst, arith}
 use Rattle.std.proofs.lemmas.Bool.{and_parts, eqb-true}
-use Rattle.model.specs.Accounts.{Near}
-use Rattle.model.specs.Program.{Op, Program, Within, acquire, closing, operation, receive, release, send, start, step_at}
-use Rattle.model.specs.Threads.{Limited, Sound, main}
+use Rattle.model.specs.Program.{Op, Within, acquire, operation, receive, release, send, start, step_at}
+use Rattle.model.specs.Threads.{Sound}
 use Rattle.records.specs.declared.record.Record.{Record}
 use Rattle.reader.specs.Reading.{is_start_of}
-use Rattle.tasks.specs.Records.{blank, is_count, is_operation, is_send, is_start, no_task, objects_of, tasks_of}
-use Rattle.tasks.specs.Threads.{body_of, counts_of, first_operation}
+use Rattle.tasks.specs.Records.{blank, is_operation, is_send, is_start, no_task, objects_of, tasks_of}
+use Rattle.tasks.specs.Threads.{body_of}
 use Rattle.text.specs.Text.{byte, one_of, some}
-use Rattle.plan.specs.Good.{Checked, Good, Uses, is_carry, is_locking, is_receive}
-use Rattle.plan.specs.Program.{carried_by, counted_on, is_channel, natural, no_object, op_of, program_of}
-use Rattle.plan.proofs.Bodies.{Stands, body_length, few_objects, short_body, stands, uses_whole}
-use Rattle.plan.proofs.Leadings.{front_length, leading_at, tasks_by}
-use Rattle.plan.proofs.Sections.{count_no_blank, no, one_of_lem, operation_letter, operation_no_blank, operation-place}
+use Rattle.plan.specs.Good.{Checked, Good, Uses, is_locking, is_receive}
+use Rattle.plan.specs.Program.{counted_on, is_channel, natural, no_object, op_of, program_of}
+use Rattle.plan.proofs.Bodies.{body_length, few_objects, stands, uses_whole}
+use Rattle.plan.proofs.Sections.{no, operation_letter, operation_no_blank, operation-place}
 
 -- the steps of a list of operation records
 

@@ -1,5 +1,5 @@
 -- What the check of a sheet says of its records.
-use Rattle.std.proofs.Common.{◌≡◌, ℕ, ◌+◌, ◌-◌, ◌≤◌, Bool, true, false, cond, leb, List, [], ◌∷◌, ◌++◌, length, take, replicate, Ok, Err, Result, sym, refl, ap, ◌∙◌, subst, arith, leb-true}
+use Rattle.std.proofs.Common.{◌≡◌, ℕ, ◌+◌, ◌-◌, ◌≤◌, Bool, true, false, cond, leb, List, [], ◌++◌, length, take, replicate, Ok, Err, Result, sym, refl, ap, ◌∙◌, subst, arith, leb-true}
 use Rattle.std.proofs.lemmas.List.{append_assoc, length-append, length-replicate, replicate-append-replicate, take_at}
 use Rattle.records.specs.declared.fault.ReadFault.{ReadFault}
 use Rattle.records.specs.declared.record.Record.{Record}
@@ -7,7 +7,7 @@ use Rattle.records.specs.declared.rows.TaskRow.{TaskRow}
 use Rattle.reader.specs.Lines.{and_then}
 use Rattle.records.specs.Order.{Written}
 use Rattle.plan.specs.Plans.{plan_threads, records_in}
-use Rattle.reader.specs.Reading.{Shows, ended, few_threads, finished, main_without_counts, others_started, read_lines, read_rest, reading, sheet_of, some_task}
+use Rattle.reader.specs.Reading.{Shows, ended, few_threads, finished, main_without_counts, others_started, read_rest, reading, sheet_of, some_task}
 use Rattle.tasks.specs.Records.{blank, tasks_of}
 use Rattle.tasks.specs.Roomy.{Roomy}
 use Rattle.text.specs.Text.{lines}

@@ -6,7 +6,7 @@ use Rattle.records.specs.declared.rows.Kind.{Kind}
 use Rattle.records.specs.declared.rows.Kind.TheVariants.{Channel, Lock}
 use Rattle.records.specs.declared.rows.ObjectRow.{ObjectRow}
 use Rattle.records.specs.declared.rows.TaskRow.{TaskRow}
-use Rattle.tasks.specs.Records.{is_count, no_task, objects_of, tasks_of}
+use Rattle.tasks.specs.Records.{no_task, objects_of, tasks_of}
 use Rattle.tasks.specs.Threads.{body_of, counts_of, first_operation}
 use Rattle.text.specs.Text.{byte}
 

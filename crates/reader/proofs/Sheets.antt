@@ -1,5 +1,5 @@
 -- What a sheet holds on the way through the lines, and when reading gives exactly this sheet.
-use Rattle.std.proofs.Common.{◌≡◌, ℕ, ◌+◌, ◌-◌, ◌<◌, ◌≤◌, Bool, true, false, ◌&&◌, List, [], ◌∷◌, ◌++◌, length, get_or, take, drop, set, replicate, is_ok as isOk, Ok, Err, Decides, Result, sym, refl, ap, ◌∙◌, subst, arith}
+use Rattle.std.proofs.Common.{◌≡◌, ℕ, ◌+◌, ◌-◌, ◌<◌, ◌≤◌, Bool, true, false, List, [], ◌∷◌, ◌++◌, length, get_or, take, drop, set, replicate, is_ok as isOk, Ok, Err, Decides, Result, sym, refl, ap, ◌∙◌, subst, arith}
 use Rattle.std.proofs.lemmas.List.{append-nil, append_assoc, drop_at, drop-drop, drop-replicate, drop-set-lt, get_or_at, get_or-replicate, length-drop, length-take-le, replicate_more, take-append-drop, take_more}
 use Rattle.std.proofs.lemmas.Bool.{false≢true}
 use Rattle.std.proofs.lemmas.Bool.Decides.{Decides-like}
@@ -8,7 +8,7 @@ use Rattle.text.specs.declared.place.Line.{Line}
 use Rattle.records.specs.declared.record.Record.{Record}
 use Rattle.reader.specs.Lines.{and_then}
 use Rattle.records.specs.Order.{Written}
-use Rattle.reader.specs.Reading.{Shows, ended, finished, read_lines, read_next, read_rest, sheet_after, sheet_of, verdict}
+use Rattle.reader.specs.Reading.{Shows, ended, finished, read_lines, read_next, read_rest, sheet_of, verdict}
 use Rattle.tasks.specs.Records.{blank, tasks_of}
 use Rattle.text.specs.Text.{lines}
 

@@ -1,6 +1,6 @@
 -- What a line means, from the records so far. Each step gives what it found or a cause, and the first cause is the line's:
 -- the steps of a line stand in the order of the numbers of their causes.
-use Rattle.std.specs.Prelude.{ℕ, zero, suc, ◌+◌, ◌-◌, Bool, true, false, cond, not, ◌&&◌, ◌||◌, List, [], ◌∷◌, map, length, get_or, take, drop, ℤ, pos, negsuc, is_some, Some, None, Ok, Err, codes, Option, Result, ◌==◌, nat_le, slice_index_or}
+use Rattle.std.specs.Prelude.{ℕ, zero, suc, ◌+◌, ◌-◌, Bool, true, false, cond, ◌&&◌, ◌||◌, List, [], ◌∷◌, map, length, get_or, take, drop, ℤ, pos, negsuc, is_some, Some, None, Ok, Err, codes, Option, Result, ◌==◌, nat_le, slice_index_or}
 use Rattle.std.specs.Option.{ok_or}
 use Rattle.std.specs.Str.{bytes_eq}
 use Rattle.records.specs.declared.fault.Cause.{Cause}
@@ -18,7 +18,7 @@ use Rattle.reader.specs.declared.section.Section.{Section}
 use Rattle.reader.specs.declared.section.Section.TheVariants.{Nothing, Header, Objects, Carries, Task, Counts, Operations}
 use Rattle.records.specs.Names.{first_named}
 use Rattle.records.specs.Order.{Written}
-use Rattle.tasks.specs.Records.{blank, is_count, last_letter, no_task, objects_of, tasks_of}
+use Rattle.tasks.specs.Records.{is_count, last_letter, no_task, objects_of, tasks_of}
 use Rattle.text.specs.Text.{byte, bytes_at, every, fields, is_legal, is_name, lines, nowhere, number_in, one_of, part, some}
 
 abbrev pub and_then : {A B E : Type 0} → Result A E → (A → Result B E) → Result B E

@@ -3,7 +3,7 @@ use Rattle.std.specs.Prelude.{ℕ, zero, suc, ◌+◌, ◌-◌, Bool, cond, ◌&
 use Rattle.std.specs.List.{flat_map, prefix_len}
 use Rattle.records.specs.declared.record.Record.{Record}
 use Rattle.records.specs.declared.rows.TaskRow.{TaskRow}
-use Rattle.tasks.specs.Records.{is_count, is_operation, is_send, is_start, no_task, tasks_of}
+use Rattle.tasks.specs.Records.{is_count, is_operation, is_send, is_start, no_task}
 
 -- the longest front of a list whose elements all pass
 abbrev pub front : {A : Type 0} → (A → Bool) → List A → List A

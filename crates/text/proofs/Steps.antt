@@ -1,10 +1,10 @@
 -- One step of each recursion of specs/Text.antt, at the place that a loop has reached: one byte more, the byte that stops it, and the end.
-use Rattle.std.proofs.Common.{◌≡◌, ℕ, suc, ◌+◌, ◌-◌, ◌<◌, ◌≤◌, Bool, true, false, cond, eqb, leb, List, [], ◌∷◌, ◌++◌, length, get_or, take, drop, Some, sym, refl, ap, ◌∙◌, arith}
-use Rattle.std.proofs.lemmas.List.{at_drop_more, at_drop_all, drop_more}
+use Rattle.std.proofs.Common.{◌≡◌, ℕ, ◌+◌, ◌-◌, ◌<◌, ◌≤◌, Bool, true, false, eqb, List, [], ◌∷◌, length, get_or, drop, Some, sym, ap, ◌∙◌, arith}
+use Rattle.std.proofs.lemmas.List.{at_drop_more, at_drop_all}
 use Rattle.std.proofs.lemmas.Bool.{cond-true, cond-false, eq-eqb, ne_eqb, le-leb, lt-leb}
 use Rattle.text.specs.declared.place.Line.{Line}
 use Rattle.text.specs.declared.place.Place.{Place}
-use Rattle.text.specs.Text.{every, some, first_from, part, cut, lines_from, split, fields_from}
+use Rattle.text.specs.Text.{every, some, first_from, cut, lines_from, split, fields_from}
 
 -- every element passes, some element passes: `d` is the default at which the code reads an element
 

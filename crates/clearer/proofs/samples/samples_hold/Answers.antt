@@ -1,5 +1,4 @@
 use Rattle.std.proofs.Common.{refl}
-use Rattle.clearer.specs.Samples.{Samples}
 use Rattle.reader.specs.Reading.{ended, read_next}
 use Rattle.tasks.specs.Threads.{crew, crew_within}
 use Rattle.clearer.proofs.samples.samples_hold.Goals as goal

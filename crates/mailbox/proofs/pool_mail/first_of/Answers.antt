@@ -1,4 +1,4 @@
-use Rattle.std.proofs.Common.{◌≡◌, ◌+◌, ◌<◌, [], ◌∷◌, ◌++◌, length, get_or, take, sym, ap, ◌∙◌, arith}
+use Rattle.std.proofs.Common.{◌<◌, [], ◌∷◌, ◌++◌, length, get_or, ap, ◌∙◌, arith}
 use Rattle.mailbox.specs.Entries.{chosen}
 use Rattle.mailbox.proofs.Arrivals.{chosen_more, chosen-other}
 use Rattle.mailbox.proofs.pool_mail.first_of.Goals as goal

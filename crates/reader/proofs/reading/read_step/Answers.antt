@@ -1,5 +1,5 @@
-use Rattle.std.proofs.Common.{◌≡◌, Bool, cond, sym, ap, ◌∙◌, rules}
-use Rattle.tasks.specs.Records.{has_room, pushed, room_in, view_of}
+use Rattle.std.proofs.Common.{◌≡◌, cond, sym, ap, ◌∙◌}
+use Rattle.tasks.specs.Records.{has_room, pushed, room_in}
 use Rattle.tasks.specs.Shown.{shown}
 use Rattle.tasks.proofs.Pushed.{view_push}
 use Rattle.reader.proofs.Next.{next_bad, next-full, next_row, room-length}

@@ -1,7 +1,6 @@
-use Rattle.std.proofs.Common.{◌≡◌, ◌+◌, ◌-◌, ◌<◌, ◌≤◌, true, false, [], ◌∷◌, ◌++◌, length, get_or, take, is_ok, Decides, sym, ap, ◌∙◌, subst, arith}
+use Rattle.std.proofs.Common.{◌≡◌, ◌+◌, ◌<◌, ◌≤◌, true, false, [], ◌∷◌, ◌++◌, length, get_or, take, is_ok, Decides, sym, ap, ◌∙◌, subst, arith}
 use Rattle.std.proofs.lemmas.List.{take_more, take_rest, length-take-le}
 use Rattle.std.proofs.lemmas.Bool.{false≢true}
-use Rattle.records.specs.declared.record.Record.{Record}
 use Rattle.reader.specs.Lines.{and_then}
 use Rattle.reader.specs.Reading.{Shows, ended, finished, read_lines, read_rest}
 use Rattle.tasks.specs.Records.{blank, tasks_of, view_of}

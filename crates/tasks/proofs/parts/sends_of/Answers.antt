@@ -1,8 +1,5 @@
-use Rattle.std.proofs.Common.{length, drop, count_by, ap, ◌∙◌, arith}
-use Rattle.std.specs.List.{prefix_len}
-use Rattle.std.proofs.lemmas.List.{length-take, length-drop}
+use Rattle.std.proofs.Common.{length, count_by, ap, ◌∙◌, arith}
 use Rattle.tasks.specs.Records.{is_send}
-use Rattle.tasks.specs.Threads.{body_of}
 use Rattle.tasks.proofs.Crews.{body_short}
 use Rattle.tasks.proofs.parts.sends_of.Goals as goal
 

@@ -1,4 +1,4 @@
-use Rattle.std.proofs.Common.{◌≡◌, ◌+◌, length, sym, ap, ◌∙◌, arith}
+use Rattle.std.proofs.Common.{◌+◌, length, sym, ap, ◌∙◌, arith}
 use Rattle.tasks.specs.Records.{blank}
 use Rattle.tasks.specs.Threads.{body_of, brought, crew}
 use Rattle.tasks.proofs.Crews.{brought-all, brought-other, brought-started, crew-length}

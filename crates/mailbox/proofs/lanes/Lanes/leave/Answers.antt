@@ -1,4 +1,4 @@
-use Rattle.std.proofs.Common.{◌≡◌, ℕ, ◌+◌, ◌-◌, ◌*◌, ◌/◌, ◌<◌, ◌≢◌, List, length, get_or, set, sym, refl, ap, ◌∙◌, arith, rules}
+use Rattle.std.proofs.Common.{ℕ, ◌+◌, ◌-◌, ◌*◌, ◌/◌, ◌<◌, List, length, get_or, set, refl, ap, rules}
 use Rattle.mailbox.specs.LaneLists.{lanes_waiting}
 use Rattle.mailbox.specs.Ring.{waits}
 use Rattle.mailbox.proofs.Rooms.{roomy-take}

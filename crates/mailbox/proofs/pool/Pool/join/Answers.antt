@@ -1,4 +1,4 @@
-use Rattle.std.proofs.Common.{◌≡◌, ℕ, suc, ◌+◌, ◌-◌, ◌<◌, ◌≤◌, List, length, set, sym, ap, ◌∙◌, arith}
+use Rattle.std.proofs.Common.{◌+◌, ◌-◌, ◌<◌, ◌≤◌, length, set, arith}
 use Rattle.std.proofs.lemmas.List.{length-set}
 use Rattle.mailbox.specs.Contract.{together}
 use Rattle.mailbox.specs.PoolLists.{pool_waiting}

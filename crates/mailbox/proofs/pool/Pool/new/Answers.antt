@@ -1,4 +1,4 @@
-use Rattle.std.proofs.Common.{◌≡◌, ℕ, ◌-◌, cond, ltb, [], length, take, ap, ◌∙◌, arith}
+use Rattle.std.proofs.Common.{◌-◌, cond, ltb, [], length, take, ap, ◌∙◌, arith}
 use Rattle.mailbox.specs.Contract.{together}
 use Rattle.mailbox.specs.Entries.{chosen}
 use Rattle.mailbox.specs.PoolLists.{pool_waiting}

@@ -1,6 +1,6 @@
-use Rattle.std.proofs.Common.{◌≡◌, ◌<◌, ◌≤◌, length, sum_by, sym, ap, ◌∙◌, subst, arith}
+use Rattle.std.proofs.Common.{◌≡◌, ◌<◌, length, sum_by, ap, ◌∙◌, subst, arith}
 use Rattle.tasks.specs.Crew.{thread_list}
-use Rattle.tasks.specs.Records.{View, tasks_of, view_of}
+use Rattle.tasks.specs.Records.{View, tasks_of}
 use Rattle.tasks.specs.Threads.{moves_of, sends_of, threads_in}
 use Rattle.plan.specs.Plans.{plan_threads, records_in}
 use Rattle.plan.proofs.Wholes.{Whole, whole}
