@@ -3,7 +3,7 @@ use Rattle.std.specs.Prelude.{Bool, false, ◌&&◌, ℤ, pos, negsuc, codes, �
 use Rattle.clearer.specs.declared.level.ZoneLevel.{ZoneLevel}
 use Rattle.records.specs.Order.{Written}
 
--- RANK: the level is the first number, and the smaller one is below (`lt_z`)
+-- RANK: the level is the first number, and the smaller one is below (`int_lt`)
 abbrev pub rank_level : ℤ → ℤ → ℤ
 rank_level number extra = number
 

@@ -1,7 +1,7 @@
 -- What a plan that was read means, under a wait order that makes levels from two numbers: a sound program by task,
 -- within the limits of a text, whose threads, moves and sends are those that the plan counts.
 use Rattle.std.specs.Prelude.{◌≡◌, List, ℤ}
-use Rattle.model.specs.Program.{moves as Moves-of, sends as sends-of}
+use Rattle.model.specs.Program.{moves as moves_of, sends as sends_of}
 use Rattle.model.specs.Threads.{Limited, Sound, by_thread, main, tree}
 use Rattle.records.specs.declared.record.Record.{Record}
 use Rattle.plan.specs.Good.{Checked}
@@ -13,5 +13,5 @@ pub record Meant {Level : Type 0} (made : ℤ → ℤ → Level) (sheet : List R
   pub sound : Sound (program_of made (records_in sheet))
   pub limited : Limited (program_of made (records_in sheet))
   pub threads : plan_threads sheet ≡ tree (program_of made (records_in sheet)) (main (program_of made (records_in sheet)))
-  pub moves : plan_moves sheet ≡ Moves-of (by_thread (program_of made (records_in sheet)))
-  pub sends : plan_sends sheet ≡ sends-of (by_thread (program_of made (records_in sheet)))
+  pub moves : plan_moves sheet ≡ moves_of (by_thread (program_of made (records_in sheet)))
+  pub sends : plan_sends sheet ≡ sends_of (by_thread (program_of made (records_in sheet)))

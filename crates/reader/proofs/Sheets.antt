@@ -1,5 +1,5 @@
 -- What a sheet holds on the way through the lines, and when reading gives exactly this sheet.
-use Rattle.std.proofs.Common.{◌≡◌, ℕ, ◌+◌, ◌-◌, ◌<◌, ◌≤◌, Bool, true, false, List, [], ◌∷◌, ◌++◌, length, get_or, take, drop, set, replicate, is_ok as isOk, Ok, Err, Decides, Result, sym, refl, ap, ◌∙◌, subst, arith}
+use Rattle.std.proofs.Common.{◌≡◌, ℕ, ◌+◌, ◌-◌, ◌<◌, ◌≤◌, Bool, true, false, List, [], ◌∷◌, ◌++◌, length, get_or, take, drop, set, replicate, is_ok, Ok, Err, Decides, Result, sym, refl, ap, ◌∙◌, subst, arith}
 use Rattle.std.proofs.lemmas.List.{append-nil, append_assoc, drop_at, drop-drop, drop-replicate, drop-set-lt, get_or_at, get_or-replicate, length-drop, length-take-le, replicate_more, take-append-drop, take_more}
 use Rattle.std.proofs.lemmas.Bool.{false≢true}
 use Rattle.std.proofs.lemmas.Bool.Decides.{Decides-like}
@@ -30,8 +30,8 @@ module _ (sheet : List Record) (count room : ℕ) (blanks : drop count sheet ≡
 pub front-is : (sheet : List Record) (count : ℕ) → take (count - 0) sheet ≡ take count sheet
 front-is sheet count = ap (λ n. take n sheet) (omega arith)
 
-pub not_ok : {A E : Type 0} (r : Result A E) (e : E) → r ≡ Err e → isOk r ≡ true → ⊥
-not_ok r e p q = let z : ◌≡◌ {A = Bool} false true = sym (ap isOk p) ∙ q in false≢true z
+pub not_ok : {A E : Type 0} (r : Result A E) (e : E) → r ≡ Err e → is_ok r ≡ true → ⊥
+not_ok r e p q = let z : ◌≡◌ {A = Bool} false true = sym (ap is_ok p) ∙ q in false≢true z
 
 -- after all lines
 
@@ -49,21 +49,21 @@ verdict-ended rs v e = ap (λ w. verdict (and_then w (λ _. Ok rs))) (sym e) ∙
     same (Ok x) = refl
     same (Err f) = refl
 
-pub ended_ok : (rs : List Record) (v : Result (Unit {0}) ReadFault) → v ≡ finished rs (tasks_of rs) → isOk v ≡ true → ended rs ≡ Ok rs
+pub ended_ok : (rs : List Record) (v : Result (Unit {0}) ReadFault) → v ≡ finished rs (tasks_of rs) → is_ok v ≡ true → ended rs ≡ Ok rs
 unfolding ended
-ended_ok rs v e = λ ok. ap (λ w. and_then w (λ _. Ok rs)) (sym e) ∙ is_ok v ok
+ended_ok rs v e = λ ok. ap (λ w. and_then w (λ _. Ok rs)) (sym e) ∙ when_ok v ok
   where
-    is_ok : (w : Result (Unit {0}) ReadFault) → isOk w ≡ true → and_then w (λ _. Ok rs) ≡ Ok rs
-    is_ok (Ok x) h = refl
-    is_ok (Err f) h = absurd (false≢true h)
+    when_ok : (w : Result (Unit {0}) ReadFault) → is_ok w ≡ true → and_then w (λ _. Ok rs) ≡ Ok rs
+    when_ok (Ok x) h = refl
+    when_ok (Err f) h = absurd (false≢true h)
 
-pub ended-fault : (rs : List Record) (v : Result (Unit {0}) ReadFault) (sheet : List Record) → v ≡ finished rs (tasks_of rs) → isOk v ≡ false → Shows (ended rs) sheet → ⊥
+pub ended-fault : (rs : List Record) (v : Result (Unit {0}) ReadFault) (sheet : List Record) → v ≡ finished rs (tasks_of rs) → is_ok v ≡ false → Shows (ended rs) sheet → ⊥
 unfolding ended
-ended-fault rs v sheet e bad s = is-fault v bad (subst (λ w. Shows (and_then w (λ _. Ok rs)) sheet) (sym e) s)
+ended-fault rs v sheet e bad s = when_fault v bad (subst (λ w. Shows (and_then w (λ _. Ok rs)) sheet) (sym e) s)
   where
-    is-fault : (w : Result (Unit {0}) ReadFault) → isOk w ≡ false → Shows (and_then w (λ _. Ok rs)) sheet → ⊥
-    is-fault (Ok x) h t = false≢true (sym h)
-    is-fault (Err f) h t = t
+    when_fault : (w : Result (Unit {0}) ReadFault) → is_ok w ≡ false → Shows (and_then w (λ _. Ok rs)) sheet → ⊥
+    when_fault (Ok x) h t = false≢true (sym h)
+    when_fault (Err f) h t = t
 
 -- a test that came out false decides what does not hold
 pub decides_no : {P : Type 0} → (P → ⊥) → Decides false P

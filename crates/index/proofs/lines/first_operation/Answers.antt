@@ -6,11 +6,11 @@ use Rattle.tasks.specs.Records.{is_count}
 use Rattle.index.proofs.lines.first_operation.Goals as goal
 
 -- the Q lines end where the records end, and past the records there are none
-pub overflow-add-result : goal.overflow-add-result
-overflow-add-result c =
+pub overflow_add-result : goal.overflow_add-result
+overflow_add-result c =
     let rs = c.args.records.now in
     let line = c.args.task.line in
     let few = prefix_len-le-length is_count (drop line rs) in
     let size = length-drop line rs in
-    let same : c.leading-counts.result ≡ prefix_len is_count (drop line rs) = c.leading-counts.ensures ∙ ap (prefix_len is_count) c.rest.ensures in
+    let same : c.leading_counts.result ≡ prefix_len is_count (drop line rs) = c.leading_counts.ensures ∙ ap (prefix_len is_count) c.rest.ensures in
     search rules

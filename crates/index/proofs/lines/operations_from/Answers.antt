@@ -8,4 +8,4 @@ use Rattle.index.proofs.lines.operations_from.Goals as goal
 pub returns : goal.returns
 returns c =
     let after = drop c.args.first c.args.records.now in
-    c.leading-operations.ensures ∙ ap (prefix_len is_operation) c.rest.ensures ∙ sym (length-take-le (prefix_len is_operation after) after (prefix_len-le-length is_operation after))
+    c.leading_operations.ensures ∙ ap (prefix_len is_operation) c.rest.ensures ∙ sym (length-take-le (prefix_len is_operation after) after (prefix_len-le-length is_operation after))

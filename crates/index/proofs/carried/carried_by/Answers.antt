@@ -16,5 +16,5 @@ loop-left-init c =
 pub loop-left-preserved : goal.loop-left-preserved
 loop-left-preserved c = (
   omega (arith, c.loop-left.invariant.0),
-  λ x y h k. carried_more c.args.records.now c.loop-left.left (omega (arith, c.loop-left-test.true)) c.loop-left.invariant.0 x y (amount_at c.loop-left.rows x y) _ (c.loop-left.invariant.1 x y h k) (c.note-carried.ensures x y h k),
+  λ x y h k. carried_more c.args.records.now c.loop-left.left (omega (arith, c.loop-left-test.true)) c.loop-left.invariant.0 x y (amount_at c.loop-left.rows x y) _ (c.loop-left.invariant.1 x y h k) (c.note_carried.ensures x y h k),
 )

@@ -1,4 +1,6 @@
 // The index of a plan: what its messages carry and where its tasks stand, found once, so that each is looked up at once.
+#![tactic(auto)]
+
 mod carried;
 mod entry;
 mod index;
