@@ -1,5 +1,5 @@
 -- What messages carry and what tasks start with: for each channel an amount, above zero credits, below zero debts.
-use Rattle.std.specs.Prelude.{◌≡◌, ℕ, ◌<◌, Bool, cond, ◌&&◌, List, [], ◌∷◌, ℤ, pos, negsuc, ◌==◌, slice_index_or}
+use Rattle.std.specs.Prelude.{ℕ, Bool, cond, ◌&&◌, List, [], ◌∷◌, ℤ, pos, negsuc, ◌==◌, slice_index_or}
 use Rattle.records.specs.declared.record.Record.{Record}
 use Rattle.text.specs.Text.{byte}
 
