@@ -1,6 +1,7 @@
 #!/usr/bin/env python3
 """Spells the names of this repository's own definitions and lemmas as Rattle does today: words in snake case, a dash only
-between two names of definitions. tools/names.txt has a line 'OLD NEW' for each name.
+between two names of definitions. tools/names.txt has a line 'OLD NEW' for each name that
+the toolchain's own script left.
 
 use: tools/spell_names.py [FILE..]    in the repository's top folder, once, after the toolchain's own script.
 With no FILE it goes over every .antt, .rt and .edit file of crates/. A name is replaced only as a whole word."""

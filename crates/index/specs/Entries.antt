@@ -1,5 +1,5 @@
 -- What the index of a plan holds.
-use Rattle.std.specs.Prelude.{◌≡◌, ℕ, ◌<◌, List, [], length, pos, slice_index_or}
+use Rattle.std.specs.Prelude.{◌≡◌, ℕ, ◌<◌, ◌≤◌, List, [], length, pos, slice_index_or}
 use Rattle.records.specs.declared.record.Record.{Record}
 use Rattle.records.specs.declared.rows.TaskRow.{TaskRow}
 use Rattle.tasks.specs.Records.{no_task}
@@ -19,7 +19,16 @@ pub record EntryOf (rs : List Record) (t : TaskRow) (e : TaskEntry) : Type 0 whe
 abbrev pub no_entry : TaskEntry
 no_entry = record { line = 0; first = 0; operations = 0; opening = [] }
 
--- The index of these records and tasks: what each message carries, and an entry for each task.
+-- An entry of nothing: all of it is zero.
+pub record EmptyEntry (e : TaskEntry) : Type 0 where
+  pub line : e.line ≡ 0
+  pub first : e.first ≡ 0
+  pub operations : e.operations ≡ 0
+  pub opening : (x : ℕ) → x < 32 → amount_in e.opening x ≡ pos 0
+
+-- The index of these records and tasks: what each message carries, an entry for each task, of which there is room for
+-- 24, and entries of nothing past the tasks.
 pub record Indexed (rs : List Record) (tasks : List TaskRow) (i : Index) : Type 0 where
   pub carried : (c d : ℕ) → c < 32 → d < 32 → amount_at i.carried c d ≡ pos (carried_by rs c d)
   pub entries : (k : ℕ) → k < 24 → k < length tasks → EntryOf rs (slice_index_or tasks k no_task) (slice_index_or i.tasks k no_entry)
+  pub past : (k : ℕ) → k < 24 → length tasks ≤ k → EmptyEntry (slice_index_or i.tasks k no_entry)
