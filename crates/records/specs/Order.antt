@@ -1,6 +1,6 @@
 -- How a text writes the levels of a wait order.
 use Rattle.std.specs.Prelude.{ℕ, List}
-use Rattle.records.specs.declared.range.Range.{Range}
+use Rattle.text.specs.declared.range.Range.{Range}
 
 pub record Written : Type 0 where
   -- the word of the header line

@@ -11,25 +11,25 @@ pub enum Layer {
     Running,
 }
 
-// What is wrong with a line.
+// What is wrong with a line, by the number of the fault.
 #[derive(Clone, Copy)]
 pub enum Cause {
     // it has no byte 10, is too long, or has a byte that no line has
-    Bytes,
+    Bytes = 3,
     // its first field is not one known letter, or it stands outside its section
-    Letter,
+    Letter = 4,
     // it has the wrong number of fields
-    Count,
+    Count = 5,
     // a field is not of its form or range, or the header word is another order's
-    Form,
+    Form = 6,
     // its name was declared before
-    Declared,
+    Declared = 7,
     // it names what is unknown or of another kind, or starts a task that is not above its own
-    Unknown,
+    Unknown = 8,
     // it is the second for its pair, or for its channel in a task
-    Twice,
+    Twice = 9,
     // it is one object, task, line or operation too many
-    Full,
+    Full = 10,
 }
 
 // A fault of reading.
@@ -54,16 +54,7 @@ impl Cause {
     pub fn number(self) -> u8
         ensures { result ≡ cause_number self }
     {
-        match self {
-            Cause::Bytes => 3,
-            Cause::Letter => 4,
-            Cause::Count => 5,
-            Cause::Form => 6,
-            Cause::Declared => 7,
-            Cause::Unknown => 8,
-            Cause::Twice => 9,
-            Cause::Full => 10,
-        }
+        self as u8
     }
 }
 
@@ -74,8 +65,7 @@ impl ReadFault {
     {
         match self {
             ReadFault::TextTooLong => 1,
-            ReadFault::SheetTooShort => 2,
-            ReadFault::SheetDiffers => 2,
+            ReadFault::SheetTooShort | ReadFault::SheetDiffers => 2,
             ReadFault::BadLine { cause, .. } => cause.number(),
             ReadFault::NoTask => 11,
             ReadFault::NeverStarted { .. } => 12,
@@ -90,9 +80,9 @@ impl ReadFault {
         ensures { result ≡ line_of self }
     {
         match self {
-            ReadFault::BadLine { line, .. } => line,
-            ReadFault::NeverStarted { line } => line,
-            ReadFault::MainHasCounts { line } => line,
+            ReadFault::BadLine { line, .. }
+            | ReadFault::NeverStarted { line }
+            | ReadFault::MainHasCounts { line } => line,
             _ => 0,
         }
     }

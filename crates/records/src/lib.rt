@@ -5,13 +5,11 @@ mod fault;
 pub mod limits;
 mod lookup;
 mod order;
-mod range;
 mod record;
 mod rows;
 
 pub use fault::{Cause, Layer, ReadFault};
 pub use lookup::{Named, find};
 pub use order::{WaitOrder, WrittenOrder};
-pub use range::Range;
 pub use record::{BLANK, Record};
-pub use rows::{Kind, NO_OBJECT, NO_TASK, ObjectRow, TaskRow};
+pub use rows::{Kind, NO_TASK, ObjectRow, TaskRow};

@@ -1,10 +1,8 @@
 // One lookup for every kind of named row.
-ghost use Rattle.std.specs.Prelude.{◌≡◌, ℕ, ◌+◌, ◌<◌, ◌≤◌, List, map, length, drop, IfSome};
-ghost use Rattle.text.specs.Text.{first_from};
+ghost use Rattle.std.specs.Prelude.{◌≡◌, ℕ, ◌<◌, map, length, IfSome};
 ghost use Rattle.records.specs.Names.{first_named, named};
 
 use crate::rows::{ObjectRow, TaskRow};
-use text::same_bytes;
 
 // A row with a name: the place of the name in the text is its start and its length.
 pub trait Named {
@@ -15,49 +13,37 @@ pub trait Named {
 }
 
 impl Named for ObjectRow {
-    ghost spot = { λ o. (o.start, o.size) };
+    ghost spot = { λ o. (o.name.start, o.name.size) };
 
     fn place(&self) -> (usize, usize) {
-        (self.start, self.size)
+        (self.name.start, self.name.size)
     }
 }
 
 impl Named for TaskRow {
-    ghost spot = { λ t. (t.start, t.size) };
+    ghost spot = { λ t. (t.name.start, t.name.size) };
 
     fn place(&self) -> (usize, usize) {
-        (self.start, self.size)
+        (self.name.start, self.name.size)
     }
 }
 
 // Whether the name stands at this place of the text. A place that is not in the text names nothing.
-fn names(text: &[u8], start: usize, size: usize, name: &[u8]) -> bool
-    ensures { result ≡ named text.now name.now (start, size) }
+fn names(text: &[u8], place: (usize, usize), name: &[u8]) -> bool
+    ensures { result ≡ named text.now name.now place }
 {
-    if start > text.len() || size > text.len() - start {
-        return false;
-    }
-    same_bytes(&text[start..start + size], name)
-}
-
-// The first row from an index on that has the same bytes as the name, or none.
-fn find_from<R: Named>(rows: &[R], from: usize, text: &[u8], name: &[u8]) -> Option<usize>
-    ensures first { result ≡ first_from from (named text.now name.now) (map R.Named.spot (drop from rows.now)) }
-    ensures inside { IfSome result (λ i. i < length rows.now) }
-{
-    for i in from..rows.len() {
-        let (start, size) = rows[i].place();
-        if names(text, start, size, name) {
-            return Some(i);
-        }
-    }
-    None
+    let (start, size) = place;
+    text.get(start..)
+        .and_then(|rest| rest.get(..size))
+        .is_some_and(|bytes| bytes == name)
 }
 
 // The first row with the same bytes as the name, or none.
 pub fn find<R: Named>(rows: &[R], text: &[u8], name: &[u8]) -> Option<usize>
-    ensures first { result ≡ first_named text.now name.now (map R.Named.spot rows.now) }
+    ensures first { result ≡ first_named text.now name.now (map R.spot rows.now) }
     ensures inside { IfSome result (λ i. i < length rows.now) }
 {
-    find_from(rows, 0, text, name)
+    rows.iter()
+        .map(|row| row.place())
+        .position(|place| names(text, place, name))
 }

@@ -2,7 +2,7 @@
 ghost use Rattle.std.specs.Prelude.{◌≡◌, ℕ, ◌≤◌, Bool, true, false, ℤ};
 ghost use Rattle.records.specs.Order.{Written};
 
-use crate::range::Range;
+use text::Range;
 
 // A wait order: what a wait level is, and when one is below another.
 // A level is made from any two numbers, as a record keeps them.
@@ -28,13 +28,12 @@ pub trait WaitOrder {
 pub trait WrittenOrder: WaitOrder {
     const FIELDS: usize;
 
+    ghost FIELDS: { ℕ };
+
     ghost written: { Written };
 
     fn header_word() -> [u8; 4]
         ensures { result ≡ written.word };
-
-    fn field_count() -> usize
-        ensures { result ≡ written.fields };
 
     fn first_range() -> Range
         ensures { result ≡ written.first };
@@ -42,6 +41,8 @@ pub trait WrittenOrder: WaitOrder {
     // Of the second field, where a level has two.
     fn second_range() -> Range
         ensures { result ≡ written.second };
+
+    ghost counted: { FIELDS ≡ written.fields };
 
     ghost one_or_two: { (1 ≤ written.fields) × (written.fields ≤ 2) };
 }

@@ -1,7 +1,8 @@
 // What reading writes: a record a line.
+use text::{NOWHERE, Place};
 
 // The record of a line. What a line lacks is 0, and a blank record is all zero.
-#[derive(Clone, Copy, PartialEq)]
+#[derive(Clone, Copy, PartialEq, Eq)]
 pub struct Record {
     pub letter: char,
     // the object or task that the line declares or names, by number
@@ -12,9 +13,8 @@ pub struct Record {
     pub number: i32,
     // its second plain number: of a level of two fields
     pub extra: i32,
-    // the place of the name that it declares: its start and its length
-    pub start: usize,
-    pub size: usize,
+    // the place of the name that it declares
+    pub name: Place,
 }
 
 pub const BLANK: Record = Record {
@@ -23,6 +23,5 @@ pub const BLANK: Record = Record {
     second: 0,
     number: 0,
     extra: 0,
-    start: 0,
-    size: 0,
+    name: NOWHERE,
 };

@@ -1,5 +1,3 @@
 pub mod Records
-pub mod Shown
 pub mod Roomy
 pub mod Threads
-pub mod Crew

@@ -6,11 +6,11 @@ use Rattle.records.specs.declared.rows.Kind.{Kind}
 use Rattle.records.specs.declared.rows.Kind.TheVariants.{Channel, Lock}
 use Rattle.records.specs.declared.rows.ObjectRow.{ObjectRow}
 use Rattle.records.specs.declared.rows.TaskRow.{TaskRow}
-use Rattle.text.specs.Text.{byte, one_of}
+use Rattle.text.specs.Text.{byte, nowhere, one_of}
 
 -- all zero
 abbrev pub blank : Record
-blank = record { letter = 0; first = 0; second = 0; number = pos 0; extra = pos 0; start = 0; size = 0 }
+blank = record { letter = 0; first = 0; second = 0; number = pos 0; extra = pos 0; name = nowhere }
 
 abbrev pub is_task : Record → Bool
 is_task r = r.letter == (byte "T")
@@ -39,7 +39,7 @@ abbrev pub kind_of : Record → Kind
 kind_of r = cond (r.letter == (byte "C")) Channel Lock
 
 abbrev pub object_row : Record → ObjectRow
-object_row r = record { start = r.start; size = r.size; kind = kind_of r; number = r.number; extra = r.extra }
+object_row r = record { name = r.name; kind = kind_of r; number = r.number; extra = r.extra }
 
 abbrev pub objects_in : Record → List ObjectRow
 objects_in r = cond (is_object r) (object_row r ∷ []) []
@@ -50,7 +50,7 @@ objects_of rs = flat_map objects_in rs
 -- The tasks, with the line numbers of their T lines; the first record is that of line `line`.
 
 abbrev pub task_row : ℕ → Record → TaskRow
-task_row line r = record { start = r.start; size = r.size; line = line }
+task_row line r = record { name = r.name; line = line }
 
 abbrev pub tasks_in : ℕ → Record → List TaskRow
 tasks_in line r = cond (is_task r) (task_row line r ∷ []) []
@@ -63,7 +63,7 @@ abbrev pub tasks_of : List Record → List TaskRow
 tasks_of rs = tasks_from 1 rs
 
 abbrev pub no_task : TaskRow
-no_task = record { start = 0; size = 0; line = 0 }
+no_task = record { name = nowhere; line = 0 }
 
 -- the operations at the end of the records: those of the task that stands open, `n` counted before
 abbrev pub open_from : ℕ → List Record → ℕ

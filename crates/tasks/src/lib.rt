@@ -9,6 +9,5 @@ mod table;
 mod threads;
 
 pub use lists::Lists;
-pub use parts::{body_of, leading_counts, leading_operations, rest};
+pub use parts::{Tasks, leading_counts, leading_operations, rest};
 pub use table::Threads;
-pub use threads::thread_count;

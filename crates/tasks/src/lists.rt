@@ -1,19 +1,25 @@
 // The lists of what records declare.
-ghost use Rattle.std.specs.Prelude.{◌≡◌, ◌≤◌, length};
+ghost use Rattle.std.specs.Prelude.{◌≤◌};
+ghost use Rattle.tasks.specs.Records.{View};
 
+use arrayvec::ArrayVec;
 use records::limits::{MOST_OBJECTS, MOST_TASKS};
 use records::{ObjectRow, TaskRow};
+use std::marker::Model;
 
-// The objects and the tasks, each list at the front of its array, the operations of the task that stands open,
-// and how many records there are.
-#[derive(Clone, Copy)]
+// The objects and the tasks, the operations of the task that stands open, and how many records there are.
+#[derive(Drop)]
 pub struct Lists {
-    pub(crate) objects: [ObjectRow; MOST_OBJECTS],
-    pub(crate) object_count: usize,
-    pub(crate) tasks: [TaskRow; MOST_TASKS],
-    pub(crate) task_count: usize,
+    pub(crate) objects: ArrayVec<ObjectRow, MOST_OBJECTS>,
+    pub(crate) tasks: ArrayVec<TaskRow, MOST_TASKS>,
     pub(crate) operations: usize,
     pub(crate) lines: usize,
-    ghost sizes: { (length objects ≡ 32) × (length tasks ≡ 24) },
-    ghost counts: { (object_count ≤ 32) × (task_count ≤ 24) × (operations ≤ 512) × (lines ≤ 800) },
+}
+
+impl Model for Lists {
+    ghost Value = { View };
+
+    ghost view = { λ l. record { objects = l.objects.items; tasks = l.tasks.items; operations = l.operations; lines = l.lines } };
+
+    ghost invariant = { λ l. (l.operations ≤ 512) × (l.lines ≤ 800) };
 }

@@ -1,12 +1,13 @@
 // Keeping the lists of the records, one record after another.
-ghost use Rattle.std.specs.Prelude.{◌≡◌, ℕ, ◌+◌, ◌<◌, true, List, [], ◌++◌, length, if◌then◌else◌};
-ghost use Rattle.tasks.specs.Records.{View, is_object, is_task, is_operation, kind_of, object_row, objects_in, task_row, tasks_in, pushed, room_in, view_of};
+ghost use Rattle.std.specs.Prelude.{◌≡◌, ◌+◌, ◌<◌, true, [], ◌++◌, length, Ok, Err, if◌then◌else◌};
+ghost use Rattle.tasks.specs.Records.{is_object, is_task, is_operation, kind_of, object_row, objects_in, task_row, tasks_in, pushed, room_in, view_of};
 ghost use Rattle.tasks.specs.Roomy.{Roomy};
-ghost use Rattle.tasks.specs.Shown.{object_list, task_list, shown};
+ghost use Rattle.records.specs.declared.fault.Cause.TheVariants.{Full};
 
 use crate::lists::Lists;
+use arrayvec::ArrayVec;
 use records::limits::{MOST_LINES, MOST_OBJECTS, MOST_OPERATIONS, MOST_TASKS};
-use records::{Kind, NO_OBJECT, NO_TASK, ObjectRow, Record, TaskRow};
+use records::{Cause, Kind, ObjectRow, Record, TaskRow};
 
 fn is_object(row: Record) -> bool
     ensures { result ≡ is_object row }
@@ -35,8 +36,7 @@ fn object_row(row: Record) -> ObjectRow
     ensures { result ≡ object_row row }
 {
     ObjectRow {
-        start: row.start,
-        size: row.size,
+        name: row.name,
         kind: kind_of(row),
         number: row.number,
         extra: row.extra,
@@ -48,8 +48,7 @@ fn task_row(line: usize, row: Record) -> TaskRow
     ensures { result ≡ task_row line row }
 {
     TaskRow {
-        start: row.start,
-        size: row.size,
+        name: row.name,
         line,
     }
 }
@@ -57,13 +56,11 @@ fn task_row(line: usize, row: Record) -> TaskRow
 impl Lists {
     // The lists of no records.
     pub fn new() -> Lists
-        ensures { shown result ≡ view_of [] }
+        ensures { result ≡ view_of [] }
     {
         Lists {
-            objects: [NO_OBJECT; MOST_OBJECTS],
-            object_count: 0,
-            tasks: [NO_TASK; MOST_TASKS],
-            task_count: 0,
+            objects: ArrayVec::new(),
+            tasks: ArrayVec::new(),
             operations: 0,
             lines: 0,
         }
@@ -71,31 +68,29 @@ impl Lists {
 
     // The objects, in the order of their declaration.
     pub fn object_rows(&self) -> &[ObjectRow]
-        ensures { result.now ≡ object_list self.now }
+        ensures { result.now ≡ self.now.objects }
     {
-        let count = self.object_count;
-        &self.objects[0..count]
+        self.objects.as_slice()
     }
 
     // The tasks, in the order of their T lines.
     pub fn task_rows(&self) -> &[TaskRow]
-        ensures { result.now ≡ task_list self.now }
+        ensures { result.now ≡ self.now.tasks }
     {
-        let count = self.task_count;
-        &self.tasks[0..count]
+        self.tasks.as_slice()
     }
 
     // Whether there is room for one record more.
     fn has_room(&self, row: Record) -> bool
-        ensures { result ≡ room_in (shown self.now) row }
+        ensures { result ≡ room_in self.now row }
     {
         if self.lines >= MOST_LINES {
             return false;
         }
         if is_object(row) {
-            self.object_count < MOST_OBJECTS
+            !self.objects.is_full()
         } else if row.letter == 'T' {
-            self.task_count < MOST_TASKS
+            !self.tasks.is_full()
         } else if is_operation(row) {
             self.operations < MOST_OPERATIONS
         } else {
@@ -105,33 +100,28 @@ impl Lists {
 
     // Adds the object that the record declares, if it declares one.
     fn note_object(&mut self, row: Record)
-        requires { is_object row ≡ true → self.old.object_count < 32 }
-        ensures { shown self.new ≡ record { objects = object_list self.old ++ objects_in row; tasks = task_list self.old; operations = self.old.operations; lines = self.old.lines } }
+        requires { is_object row ≡ true → length self.old.objects < 32 }
+        ensures { self.new ≡ record { objects = self.old.objects ++ objects_in row; tasks = self.old.tasks; operations = self.old.operations; lines = self.old.lines } }
     {
         if is_object(row) {
-            let count = self.object_count;
-            self.objects[count] = object_row(row);
-            self.object_count = count + 1;
+            self.objects.push(object_row(row));
         }
     }
 
     // Adds the task that the record begins, if it begins one.
     fn note_task(&mut self, row: Record)
-        requires { is_task row ≡ true → self.old.task_count < 24 }
-        ensures { shown self.new ≡ record { objects = object_list self.old; tasks = task_list self.old ++ tasks_in (self.old.lines + 1) row; operations = self.old.operations; lines = self.old.lines } }
+        requires { is_task row ≡ true → length self.old.tasks < 24 }
+        ensures { self.new ≡ record { objects = self.old.objects; tasks = self.old.tasks ++ tasks_in (self.old.lines + 1) row; operations = self.old.operations; lines = self.old.lines } }
     {
         if row.letter == 'T' {
-            let count = self.task_count;
-            let line = self.lines + 1;
-            self.tasks[count] = task_row(line, row);
-            self.task_count = count + 1;
+            self.tasks.push(task_row(self.lines + 1, row));
         }
     }
 
     // Counts the line of the record, and the operation if it is one.
     fn note_line(&mut self, row: Record)
         requires { ((is_operation row ≡ true → self.old.operations < 512)) × (self.old.lines < 800) }
-        ensures { shown self.new ≡ record { objects = object_list self.old; tasks = task_list self.old; operations = (if is_operation row then self.old.operations + 1 else 0); lines = self.old.lines + 1 } }
+        ensures { self.new ≡ record { objects = self.old.objects; tasks = self.old.tasks; operations = (if is_operation row then self.old.operations + 1 else 0); lines = self.old.lines + 1 } }
     {
         if is_operation(row) {
             self.operations += 1;
@@ -141,27 +131,27 @@ impl Lists {
         self.lines += 1;
     }
 
-    // Takes up one record more if there is room for it, and answers whether there was; else nothing changes.
-    pub fn push(&mut self, row: Record) -> bool
-        ensures room { result ≡ room_in (shown self.old) row }
-        ensures after { shown self.new ≡ (if result then pushed (shown self.old) row else shown self.old) }
+    // Takes up one record more if there is room for it; else it refuses, and nothing changes.
+    pub fn push(&mut self, row: Record) -> Result<(), Cause>
+        ensures room { result ≡ (if room_in self.old row then Ok tt else Err Full) }
+        ensures after { self.new ≡ (if room_in self.old row then pushed self.old row else self.old) }
     {
         if !self.has_room(row) {
-            return false;
+            return Err(Cause::Full);
         }
         self.note_object(row);
         self.note_task(row);
         self.note_line(row);
-        true
+        Ok(())
     }
 
     // The lists of these records, if each had room after those before it.
     pub fn of(records: &[Record]) -> Lists
-        ensures { Roomy records.now → shown result ≡ view_of records.now }
+        ensures { Roomy records.now → result ≡ view_of records.now }
     {
         let mut lists = Lists::new();
         for row in records {
-            lists.push(*row);
+            let _ = lists.push(*row);
         }
         lists
     }

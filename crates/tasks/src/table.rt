@@ -1,12 +1,18 @@
 // The table of threads.
-ghost use Rattle.std.specs.Prelude.{◌≡◌, ◌≤◌, length};
+ghost use Rattle.std.specs.Prelude.{ℕ, List};
 
+use arrayvec::ArrayVec;
 use records::limits::MOST_THREADS;
+use std::marker::Model;
 
-// The task of each thread, at the front of the array.
-#[derive(Clone, Copy)]
+// The task of each thread.
+#[derive(Drop)]
 pub struct Threads {
-    pub(crate) tasks: [usize; MOST_THREADS],
-    pub(crate) count: usize,
-    ghost sizes: { (length tasks ≡ 64) × (count ≤ 64) },
+    pub(crate) tasks: ArrayVec<usize, MOST_THREADS>,
+}
+
+impl Model for Threads {
+    ghost Value = { List ℕ };
+
+    ghost view = { λ t. t.tasks.items };
 }

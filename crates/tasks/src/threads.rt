@@ -1,10 +1,11 @@
 // The threads of a plan, by recursion into the tasks that are started.
-ghost use Rattle.std.specs.Prelude.{◌≡◌, ℕ, ◌+◌, ◌≤◌, min, ◌++◌, length, take};
+ghost use Rattle.std.specs.Prelude.{◌≡◌, ℕ, ◌+◌, ◌≤◌, min, ◌++◌, length};
 ghost use Rattle.tasks.specs.Threads.{body_of, crew, starts as starting};
 
-use crate::parts::body_of;
+use crate::parts::Tasks;
+use arrayvec::ArrayVec;
+use records::Record;
 use records::limits::MOST_THREADS;
-use records::{Record, TaskRow};
 
 // Whether the operation of a task starts a thread. F names only tasks above.
 fn starts(task: usize, row: Record) -> bool
@@ -13,43 +14,35 @@ fn starts(task: usize, row: Record) -> bool
     row.letter == 'F' && row.first < task
 }
 
-// The threads of a task, one and those of every task that its F operations name; one too many where there are more than 64.
-pub fn thread_count(records: &[Record], tasks: &[TaskRow], task: usize) -> usize
-    ensures { result ≡ min 65 (length (crew (body_of records.now tasks.now) task)) }
-{
-    let body = body_of(records, tasks, task);
-    let mut n = 1;
-    for row in body {
-        if starts(task, *row) {
-            n += thread_count(records, tasks, row.first);
-            if n > MOST_THREADS {
-                return MOST_THREADS + 1;
+impl Tasks<'_> {
+    // The threads of a task, one and those of every task that its F operations name; one too many where there are more than 64.
+    pub fn thread_count(&self, task: usize) -> usize
+        ensures { result ≡ min 65 (length (crew (body_of self.now.records.now self.now.rows.now) task)) }
+    {
+        let body = self.body_of(task);
+        let mut n = 1;
+        for row in body {
+            if starts(task, *row) {
+                n += self.thread_count(row.first);
+                if n > MOST_THREADS {
+                    return MOST_THREADS + 1;
+                }
+            }
+        }
+        n
+    }
+
+    // Adds the tasks of the threads of a task, each thread followed at once by all those it brings about.
+    pub(crate) fn add_threads(&self, task: usize, threads: &mut ArrayVec<usize, MOST_THREADS>)
+        requires { length threads.old.items + length (crew (body_of self.now.records.now self.now.rows.now) task) ≤ 64 }
+        ensures { threads.new.items ≡ threads.old.items ++ crew (body_of self.now.records.now self.now.rows.now) task }
+    {
+        let body = self.body_of(task);
+        threads.push(task);
+        for row in body {
+            if starts(task, *row) {
+                self.add_threads(row.first, threads);
             }
         }
     }
-    n
-}
-
-// Writes the tasks of the threads of a task from `at` on, each thread followed at once by all those it brings about;
-// answers the number after the last.
-pub fn number_threads(
-    records: &[Record],
-    tasks: &[TaskRow],
-    task: usize,
-    threads: &mut [usize],
-    at: usize,
-) -> usize
-    requires { at + length (crew (body_of records.now tasks.now) task) ≤ length threads.old }
-    ensures next { result ≡ at + length (crew (body_of records.now tasks.now) task) }
-    ensures crew { take result threads.new ≡ take at threads.old ++ crew (body_of records.now tasks.now) task }
-{
-    let body = body_of(records, tasks, task);
-    threads[at] = task;
-    let mut next = at + 1;
-    for row in body {
-        if starts(task, *row) {
-            next = number_threads(records, tasks, row.first, threads, next);
-        }
-    }
-    next
 }

@@ -1,5 +1,6 @@
 -- The text layer: bytes, lines, fields, names and numbers. Every definition computes.
 use Rattle.std.specs.Prelude.{◌≡◌, ℕ, zero, suc, ◌+◌, ◌-◌, ◌*◌, ◌<◌, ◌≤◌, min, Bool, true, false, cond, not, ◌&&◌, ◌||◌, List, [], ◌∷◌, length, take, drop, ℤ, pos, negsuc, Some, None, codes, fold, Option, ◌==◌, int_le, nat_eq, nat_le, slice_index}
+use Rattle.std.specs.List.{list_all, list_any, position_from}
 use Prim.Native.String.{String}
 use Rattle.text.specs.declared.bytes.Class.{Class}
 use Rattle.text.specs.declared.bytes.Class.TheVariants.{Digit, Letter, Legal}
@@ -33,17 +34,14 @@ belongs Legal b = is_legal b
 
 -- whether every element passes, and whether some element does
 abbrev pub every : {A : Type 0} → (A → Bool) → List A → Bool
-every p [] = true
-every p (x ∷ xs) = cond (p x) (every p xs) false
+every p xs = list_all p xs
 
 abbrev pub some : {A : Type 0} → (A → Bool) → List A → Bool
-some p [] = false
-some p (x ∷ xs) = cond (p x) true (some p xs)
+some p xs = list_any p xs
 
 -- the index, counted from i, of the first element that passes
 abbrev pub first_from : {A : Type 0} → ℕ → (A → Bool) → List A → Option ℕ
-first_from i p [] = None
-first_from i p (x ∷ xs) = cond (p x) (Some i) (first_from (i + 1) p xs)
+first_from i p xs = position_from p i xs
 
 -- whether the number is among those of the list
 abbrev pub one_of : ℕ → List ℕ → Bool
@@ -58,10 +56,10 @@ part xs start size = take size (drop start xs)
 -- The lines of the rest of a text, where the line that stands open began at `start` and has `size` bytes so far.
 -- Byte 10 ends a line and is not counted; a text that ends in byte 10 ends there.
 abbrev pub cut : ℕ → ℕ → List ℕ → List Line
-cut start size [] = cond (size == 0) [] (record { start = start; size = size; ended = false } ∷ [])
+cut start size [] = cond (size == 0) [] (record { place = record { start = start; size = size }; ended = false } ∷ [])
 cut start size (b ∷ bs) =
     let after = cut (start + size + 1) 0 bs in
-    cond (b == 10) (record { start = start; size = size; ended = true } ∷ after) (cut start (size + 1) bs)
+    cond (b == 10) (record { place = record { start = start; size = size }; ended = true } ∷ after) (cut start (size + 1) bs)
 
 -- the lines from a place on, and all lines
 abbrev pub lines_from : List ℕ → ℕ → List Line
@@ -72,10 +70,10 @@ lines text = lines_from text 0
 
 -- the first line from a place on: the others follow its byte 10, and it lies in the text
 pub record LineAt (text : List ℕ) (from : ℕ) (l : Line) : Type 0 where
-  pub cuts : lines_from text from ≡ l ∷ lines_from text (l.start + l.size + 1)
-  pub starts : l.start ≡ from
+  pub cuts : lines_from text from ≡ l ∷ lines_from text (l.place.start + l.place.size + 1)
+  pub starts : l.place.start ≡ from
   pub begun : from < length text
-  pub inside : l.start + l.size ≤ length text
+  pub inside : l.place.start + l.place.size ≤ length text
 
 -- Fields
 
@@ -90,16 +88,16 @@ split start size (b ∷ bs) =
 abbrev pub fields_from : ℕ → List ℕ → ℕ → List Place
 fields_from base line from = cond (nat_le from (length line)) (split (base + from) 0 (drop from line)) []
 
--- the fields of a line
-abbrev pub fields : List ℕ → Line → List Place
-fields text l = fields_from l.start (part text l.start l.size) 0
-
-abbrev pub nowhere : Place
-nowhere = record { start = 0; size = 0 }
-
 -- the bytes at a place
 abbrev pub bytes_at : List ℕ → Place → List ℕ
 bytes_at text p = part text p.start p.size
+
+-- the fields of a line
+abbrev pub fields : List ℕ → Line → List Place
+fields text l = fields_from l.place.start (bytes_at text l.place) 0
+
+abbrev pub nowhere : Place
+nowhere = record { start = 0; size = 0 }
 
 -- Names
 

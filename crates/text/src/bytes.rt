@@ -1,7 +1,6 @@
 // Which bytes a plan may hold, and where.
-ghost use Rattle.std.specs.Prelude.{◌≡◌, Bool};
-ghost use Rattle.std.specs.Str.{bytes_eq};
-ghost use Rattle.text.specs.Text.{belongs, every};
+ghost use Rattle.std.specs.Prelude.{◌≡◌, ℕ, Bool, ◌==◌};
+ghost use Rattle.text.specs.Text.{belongs, every, first_from};
 
 #[derive(Clone, Copy)]
 pub enum Class {
@@ -13,31 +12,29 @@ pub enum Class {
     Legal,
 }
 
-fn belongs_to(b: u8, class: Class) -> bool
-    ensures { result ≡ belongs class b }
-{
-    match class {
-        Class::Digit => matches!(b, b'0'..=b'9'),
-        Class::Letter => matches!(b, b'A'..=b'Z' | b'0'..=b'9'),
-        Class::Legal => matches!(b, b'A'..=b'Z' | b'0'..=b'9' | b',' | b'-'),
-    }
-}
-
-// Whether every byte is of the class.
-pub fn all_of(bytes: &[u8], class: Class) -> bool
-    ensures { result ≡ every (belongs class) bytes.now }
-{
-    for b in bytes {
-        if !belongs_to(*b, class) {
-            return false;
+impl Class {
+    // Whether the byte is of the class.
+    fn has(self, b: u8) -> bool
+        ensures { result ≡ belongs self b }
+    {
+        match self {
+            Class::Digit => matches!(b, b'0'..=b'9'),
+            Class::Letter => matches!(b, b'A'..=b'Z' | b'0'..=b'9'),
+            Class::Legal => matches!(b, b'A'..=b'Z' | b'0'..=b'9' | b',' | b'-'),
         }
     }
-    true
+
+    // Whether every byte is of the class.
+    pub fn has_all(self, bytes: &[u8]) -> bool
+        ensures { result ≡ every (belongs self) bytes.now }
+    {
+        bytes.iter().all(|b| self.has(*b))
+    }
 }
 
-// Whether two slices have the same bytes.
-pub fn same_bytes(a: &[u8], b: &[u8]) -> bool
-    ensures { result ≡ bytes_eq a.now b.now }
+// Where the first byte of this value stands.
+pub(crate) fn first_of(bytes: &[u8], byte: u8) -> Option<usize>
+    ensures { result ≡ first_from 0 (λ b. b == byte) bytes.now }
 {
-    a == b
+    bytes.iter().position(|b| *b == byte)
 }

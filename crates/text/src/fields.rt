@@ -1,57 +1,79 @@
 // The fields of a line. A field is a place in the text; commas part them.
-ghost use Rattle.std.specs.Prelude.{◌≡◌, ℕ, ◌+◌, ◌-◌, ◌≤◌, ◌∷◌, length, slice_index_or};
+ghost use Rattle.std.specs.Prelude.{◌≡◌, ◌+◌, ◌^◌, ◌<◌, ◌≤◌, ◌∷◌, length, slice_index_or};
 ghost use Rattle.text.specs.Text.{fields, fields_from, nowhere};
 
-use crate::lines::bytes_at;
-use crate::place::{Line, Place};
+use crate::bytes::first_of;
+use crate::place::{Line, NOWHERE, Place};
 
-// The end of the field that begins at `from`: its comma, or the end of the line. The next field begins after that.
-// `base` is where the line begins in its text.
-fn field_end(base: usize, line: &[u8], from: usize) -> usize
+// The size of the field that begins at `from`: it ends at its comma, or with the line, and the next one begins after
+// that. `base` is where the line begins in its text.
+fn field_size(base: usize, line: &[u8], from: usize) -> usize
     requires { from ≤ length line.now }
-    ensures cuts { fields_from base line.now from ≡ (record { start = base + from; size = result - from }) ∷ fields_from base line.now (result + 1) }
-    ensures inside { (from ≤ result) × (result ≤ length line.now) }
+    ensures cuts { fields_from base line.now from ≡ (record { start = base + from; size = result }) ∷ fields_from base line.now (from + result + 1) }
+    ensures inside { from + result ≤ length line.now }
 {
-    let mut end = from;
-    while end < line.len() && line[end] != b',' {
-        end += 1;
-    }
-    end
+    let rest = &line[from..];
+    first_of(rest, b',').unwrap_or(rest.len())
 }
 
-// How many fields the line has: one more than its commas.
-pub fn field_count(text: &[u8], line: Line) -> usize
-    ensures { result ≡ length (fields text.now line) }
-{
-    let bytes = bytes_at(text, line.start, line.size);
-    let mut count = 0;
-    let mut at = 0;
-    while at <= bytes.len() {
-        at = field_end(line.start, bytes, at) + 1;
-        count += 1;
-    }
-    count
+// The fields of a line that are still to come.
+#[derive(Clone, Copy)]
+pub struct Fields<'a> {
+    // where the line begins in its text
+    base: usize,
+    line: &'a [u8],
+    // where the next field begins in the line; past the end of the line there is none
+    from: usize,
+    ghost fits: { base + length line.now < 2 ^ 64 },
+    ghost inside: { from ≤ length line.now + 1 },
 }
 
-// The field with this number, from 0; an empty one where the line has fewer.
-pub fn field(text: &[u8], line: Line, number: usize) -> Place
-    ensures { result ≡ slice_index_or (fields text.now line) number nowhere }
-{
-    let Line { start, size, .. } = line;
-    let bytes = bytes_at(text, start, size);
-    let mut at = 0;
-    for _k in 0..number {
-        if at > bytes.len() {
-            return Place { start: 0, size: 0 };
+impl<'a> Iterator for Fields<'a> {
+    ghost use Rattle.text.specs.Left.{fields_left};
+    ghost use Rattle.std.specs.Iterator.{YieldsFirst, item_count};
+
+    type Item = Place;
+
+    ghost next_gives = { YieldsFirst fields_left };
+
+    ghost remaining = { item_count fields_left };
+
+    fn next(&mut self) -> Option<Place> {
+        if self.from > self.line.len() {
+            return None;
         }
-        at = field_end(start, bytes, at) + 1;
+        let start = self.base + self.from;
+        let size = field_size(self.base, self.line, self.from);
+        self.from += size + 1;
+        Some(Place { start, size })
     }
-    if at > bytes.len() {
-        return Place { start: 0, size: 0 };
+}
+
+impl Line {
+    ghost use Rattle.text.specs.Left.{fields_left};
+
+    // The fields of the line.
+    pub fn fields(self, text: &[u8]) -> Fields<'_>
+        ensures { fields_left result ≡ fields text.now self }
+    {
+        Fields {
+            base: self.place.start,
+            line: self.place.bytes(text),
+            from: 0,
+        }
     }
-    let end = field_end(start, bytes, at);
-    Place {
-        start: start + at,
-        size: end - at,
+
+    // How many fields the line has.
+    pub fn field_count(self, text: &[u8]) -> usize
+        ensures { result ≡ length (fields text.now self) }
+    {
+        self.fields(text).count()
+    }
+
+    // The field with this number, from 0; an empty one where the line has fewer.
+    pub fn field(self, text: &[u8], number: usize) -> Place
+        ensures { result ≡ slice_index_or (fields text.now self) number nowhere }
+    {
+        self.fields(text).nth(number).unwrap_or(NOWHERE)
     }
 }

@@ -7,10 +7,12 @@ mod lines;
 mod names;
 mod numbers;
 mod place;
+mod range;
 
-pub use bytes::{Class, all_of, same_bytes};
-pub use fields::{field, field_count};
-pub use lines::{bytes_at, next_line};
+pub use bytes::Class;
+pub use fields::Fields;
+pub use lines::Lines;
 pub use names::is_name;
 pub use numbers::number_in;
-pub use place::{Line, Place};
+pub use place::{Line, NOWHERE, Place};
+pub use range::Range;

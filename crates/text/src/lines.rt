@@ -1,52 +1,67 @@
 // The lines of a text.
-ghost use Rattle.std.specs.Prelude.{◌≡◌, ℕ, ◌<◌, [], length, MatchOption};
-ghost use Rattle.text.specs.Text.{lines_from, part, LineAt};
+ghost use Rattle.std.specs.Prelude.{◌≡◌, ◌<◌, length};
+ghost use Rattle.text.specs.Text.{lines, LineAt};
 
-use crate::place::Line;
+use crate::bytes::first_of;
+use crate::place::{Line, Place};
 
-// The line that begins at `from`.
+// The line that begins at `from`: up to the next byte 10, or to the end of the text.
 fn line_at(text: &[u8], from: usize) -> Line
     requires { from < length text.now }
     ensures { LineAt text.now from result }
 {
-    let mut end = from;
-    while end < text.len() {
-        if text[end] == b'\n' {
-            return Line {
+    let rest = &text[from..];
+    match first_of(rest, b'\n') {
+        Some(size) => Line {
+            place: Place { start: from, size },
+            ended: true,
+        },
+        None => Line {
+            place: Place {
                 start: from,
-                size: end - from,
-                ended: true,
-            };
+                size: rest.len(),
+            },
+            ended: false,
+        },
+    }
+}
+
+// The lines of a text that are still to come.
+#[derive(Clone, Copy)]
+pub struct Lines<'a> {
+    text: &'a [u8],
+    // where the next line begins
+    from: usize,
+}
+
+impl<'a> Lines<'a> {
+    ghost use Rattle.text.specs.Left.{lines_left};
+
+    // The lines of a text.
+    pub fn of(text: &'a [u8]) -> Lines<'a>
+        ensures { lines_left result ≡ lines text.now }
+    {
+        Lines { text, from: 0 }
+    }
+}
+
+impl<'a> Iterator for Lines<'a> {
+    ghost use Rattle.text.specs.Left.{lines_left};
+    ghost use Rattle.std.specs.Iterator.{YieldsFirst, item_count};
+
+    type Item = Line;
+
+    ghost next_gives = { YieldsFirst lines_left };
+
+    ghost remaining = { item_count lines_left };
+
+    // The next line begins after the byte 10 of this one.
+    fn next(&mut self) -> Option<Line> {
+        if self.from >= self.text.len() {
+            return None;
         }
-        end += 1;
+        let line = line_at(self.text, self.from);
+        self.from = line.place.start + line.place.size + 1;
+        Some(line)
     }
-    Line {
-        start: from,
-        size: end - from,
-        ended: false,
-    }
-}
-
-// The line that begins at `from`, or none where the text has ended. The next line begins after its byte 10.
-pub fn next_line(text: &[u8], from: usize) -> Option<Line>
-    ensures { MatchOption result (lines_from text.now from ≡ []) (LineAt text.now from) }
-{
-    if from >= text.len() {
-        return None;
-    }
-    Some(line_at(text, from))
-}
-
-// The bytes from a start on, so many of them, or as many as the text has there.
-pub fn bytes_at(text: &[u8], start: usize, size: usize) -> &[u8]
-    ensures { result.now ≡ part text.now start size }
-{
-    if start >= text.len() {
-        return &text[text.len()..];
-    }
-    let rest = &text[start..];
-    if size >= rest.len() {
-        return rest;
-    }
-    &rest[0..size]
 }

@@ -2,7 +2,7 @@
 ghost use Rattle.std.specs.Prelude.{◌≡◌};
 ghost use Rattle.text.specs.Text.{is_name};
 
-use crate::bytes::{Class, all_of};
+use crate::bytes::Class;
 
 // The longest name, in bytes.
 const NAME_BYTES: usize = 12;
@@ -11,5 +11,5 @@ const NAME_BYTES: usize = 12;
 pub fn is_name(bytes: &[u8]) -> bool
     ensures { result ≡ is_name bytes.now }
 {
-    bytes.len() >= 1 && bytes.len() <= NAME_BYTES && all_of(bytes, Class::Letter)
+    bytes.len() >= 1 && bytes.len() <= NAME_BYTES && Class::Letter.has_all(bytes)
 }

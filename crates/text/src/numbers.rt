@@ -1,8 +1,9 @@
 // Numbers in base ten.
-ghost use Rattle.std.specs.Prelude.{◌≡◌, min, Some};
+ghost use Rattle.std.specs.Prelude.{◌≡◌, min};
 ghost use Rattle.text.specs.Text.{is_natural, natural, value_of, number_in, within, above, below, enough, capped};
 
-use crate::bytes::{Class, all_of};
+use crate::bytes::Class;
+use crate::range::Range;
 
 // Above every `i32`, and low enough that one digit more fits a `u64`.
 const ENOUGH: u64 = 1 << 40;
@@ -11,7 +12,7 @@ const ENOUGH: u64 = 1 << 40;
 fn is_natural(field: &[u8]) -> bool
     ensures { result ≡ is_natural field.now }
 {
-    all_of(field, Class::Digit) && field.len() >= 1 && (field[0] != b'0' || field.len() == 1)
+    Class::Digit.has_all(field) && !field.is_empty() && (field[0] != b'0' || field.len() == 1)
 }
 
 // The number that the digits write, cut down to ENOUGH.
@@ -29,47 +30,30 @@ fn value(digits: &[u8]) -> u64
 fn read_natural(field: &[u8]) -> Option<u64>
     ensures { result ≡ capped (natural field.now) }
 {
-    if is_natural(field) {
-        Some(value(field))
-    } else {
-        None
-    }
+    is_natural(field).then(|| value(field))
 }
 
-fn in_range(z: i64, low: i32, high: i32) -> Option<i32>
-    ensures { result ≡ within low high (Some z) }
+fn not_below_zero(field: &[u8], range: Range) -> Option<i32>
+    ensures { result ≡ within range.low range.high (above (natural field.now)) }
 {
-    if z >= low as i64 && z <= high as i64 {
-        Some(z as i32)
-    } else {
-        None
-    }
+    range.keep(read_natural(field)? as i64)
 }
 
-fn not_below_zero(field: &[u8], low: i32, high: i32) -> Option<i32>
-    ensures { result ≡ within low high (above (natural field.now)) }
-{
-    match read_natural(field) {
-        Some(n) => in_range(n as i64, low, high),
-        None => None,
-    }
-}
-
-fn below_zero(digits: &[u8], low: i32, high: i32) -> Option<i32>
-    ensures { result ≡ within low high (below (natural digits.now)) }
+fn below_zero(digits: &[u8], range: Range) -> Option<i32>
+    ensures { result ≡ within range.low range.high (below (natural digits.now)) }
 {
     match read_natural(digits) {
-        Some(n) if n > 0 => in_range(-(n as i64), low, high),
+        Some(n) if n > 0 => range.keep(-(n as i64)),
         _ => None,
     }
 }
 
 // The number that the field writes, if it is in the range. The field may be of any length.
-pub fn number_in(field: &[u8], low: i32, high: i32) -> Option<i32>
-    ensures { result ≡ number_in low high field.now }
+pub fn number_in(field: &[u8], range: Range) -> Option<i32>
+    ensures { result ≡ number_in range.low range.high field.now }
 {
-    if field.len() > 0 && field[0] == b'-' {
-        return below_zero(&field[1..], low, high);
+    match field.strip_prefix(b"-") {
+        Some(digits) => below_zero(digits, range),
+        None => not_below_zero(field, range),
     }
-    not_below_zero(field, low, high)
 }

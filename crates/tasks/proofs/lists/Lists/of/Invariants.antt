@@ -1,8 +1,7 @@
 use Rattle.std.proofs.Common.{◌≡◌, take}
 use Rattle.tasks.specs.Records.{view_of}
 use Rattle.tasks.specs.Roomy.{Roomy}
-use Rattle.tasks.specs.Shown.{shown}
 use Rattle.tasks.proofs.lists.Lists.of.Given as goal
 
 abbrev pub invariant-loop-row : goal.invariant-loop-row
-invariant-loop-row l = Roomy l.records → shown l.lists ≡ view_of (take l.row-index l.records)
+invariant-loop-row l = Roomy l.records → l.lists ≡ view_of (take l.row-index l.records)
