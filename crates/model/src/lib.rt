@@ -14,95 +14,69 @@ ghost use Rattle.model.specs.Threads.{ThreadLaws, PlanPromises, PlanOrderDoesNot
 // home exactly if the program is cleared and as many moves were granted as it counts; credits balance on
 // every channel; no two threads hold one lock; a thread's place is the number of its granted moves; the
 // position is the one that the program and the grants determine.
-pub fn run_promises<Level, Message, Mailbox>() -> u8
+pub fn run_promises<Level, Message, Mailbox>()
     ensures { RunPromises Level Message Mailbox }
-{
-    0
-}
+{}
 
 // Two histories that granted each thread equally many moves are at the same position, whichever kind of
 // mailbox each used and whichever wait order each was judged by.
-pub fn order_does_not_matter<Level, Message, Mailbox, Other>() -> u8
+pub fn order_does_not_matter<Level, Message, Mailbox, Other>()
     ensures { OrderDoesNotMatter Level Message Mailbox Other }
-{
-    0
-}
+{}
 
 // An opening has no fault exactly if no message waits under any number 0 to 31 and every channel has room
 // for the sends of the whole program; and its fault is 41 exactly if some message waits.
-pub fn opening_law<Level, Message, Mailbox>() -> u8
+pub fn opening_law<Level, Message, Mailbox>()
     ensures { OpeningLaw Level Message Mailbox }
-{
-    0
-}
+{}
 
 // How far an account can go.
-pub fn account_law<Level, Message, Mailbox>() -> u8
+pub fn account_law<Level, Message, Mailbox>()
     ensures { AccountLaw Level Message Mailbox }
-{
-    0
-}
+{}
 
 // A cleared program can be brought home from every point of a history.
-pub fn completes<Level, Message, Mailbox>() -> u8
+pub fn completes<Level, Message, Mailbox>()
     ensures { Completes Level Message Mailbox }
-{
-    0
-}
+{}
 
 // What one wait order clears, an order with more levels below one another clears.
-pub fn cleared_more<Level, Message>() -> u8
+pub fn cleared_more<Level, Message>()
     ensures { ClearedMore Level Message }
-{
-    0
-}
+{}
 
 // The threads that the tasks of a plan bring about: they make a program of which a run can be made, with
 // their counts, and they are cleared exactly if the tasks are.
-pub fn thread_laws<Level, Message>() -> u8
+pub fn thread_laws<Level, Message>()
     ensures { ThreadLaws Level Message }
-{
-    0
-}
+{}
 
 // The promises over every history of every plan by task, where cleared means the walk of each task.
-pub fn plan_promises<Level, Message, Mailbox>() -> u8
+pub fn plan_promises<Level, Message, Mailbox>()
     ensures { PlanPromises Level Message Mailbox }
-{
-    0
-}
+{}
 
 // Two histories of one plan that granted each thread equally many moves are at the same position.
-pub fn plan_order_does_not_matter<Level, Message, Mailbox, Other>() -> u8
+pub fn plan_order_does_not_matter<Level, Message, Mailbox, Other>()
     ensures { PlanOrderDoesNotMatter Level Message Mailbox Other }
-{
-    0
-}
+{}
 
 // No account of a plan leaves -51,300 to 51,300.
-pub fn plan_accounts<Level, Message, Mailbox>() -> u8
+pub fn plan_accounts<Level, Message, Mailbox>()
     ensures { PlanAccounts Level Message Mailbox }
-{
-    0
-}
+{}
 
 // A plan with a history that ends with every thread home.
-pub fn hoist_runs() -> u8
+pub fn hoist_runs()
     ensures { HoistRuns }
-{
-    0
-}
+{}
 
 // A plan with ten threads, written out.
-pub fn deep_threads() -> u8
+pub fn deep_threads()
     ensures { DeepThreads }
-{
-    0
-}
+{}
 
 // Each fault number met once, with its exact answer.
-pub fn rule_examples() -> u8
+pub fn rule_examples()
     ensures { Examples }
-{
-    0
-}
+{}

@@ -1,6 +1,8 @@
 -- What a sheet holds on the way through the lines, and when reading gives exactly this sheet.
-use Rattle.std.proofs.Common.{◌≡◌, ℕ, ◌+◌, ◌-◌, ◌<◌, ◌≤◌, Bool, true, false, List, [], ◌∷◌, ◌++◌, length, get_or, take, drop, set, replicate, is_ok, Ok, Err, Decides, Result, sym, refl, ap, ◌∙◌, subst, arith}
+use Rattle.std.proofs.Common.{◌≡◌, ℕ, suc, ap₂, ◌+◌, ◌-◌, ◌<◌, ◌≤◌, Bool, true, false, List, [], ◌∷◌, ◌++◌, length, get_or, take, drop, set, replicate, is_ok, Ok, Err, Decides, Result, sym, refl, ap, ◌∙◌, subst, arith}
 use Rattle.std.proofs.lemmas.List.{append-nil, append_assoc, drop_at, drop-drop, drop-replicate, drop-set-lt, get_or_at, get_or-replicate, length-drop, length-take-le, replicate_more, take-append-drop, take_more}
+use Rattle.std.specs.Bool.{MatchBool}
+use Rattle.std.specs.List.{AllWithin, HoldsAt}
 use Rattle.std.proofs.lemmas.Bool.{false≢true}
 use Rattle.std.proofs.lemmas.Bool.Decides.{Decides-like}
 use Rattle.records.specs.declared.fault.ReadFault.{ReadFault}
@@ -65,10 +67,6 @@ ended-fault rs v sheet e bad s = when_fault v bad (subst (λ w. Shows (and_then 
     when_fault (Ok x) h t = false≢true (sym h)
     when_fault (Err f) h t = t
 
--- a test that came out false decides what does not hold
-pub decides_no : {P : Type 0} → (P → ⊥) → Decides false P
-decides_no h = (λ e. absurd (false≢true e), λ p. absurd (h p))
-
 -- what was read stays at the front
 
 pub extends : (o : Written) (text : List ℕ) (ls : List Line) (rs all : List Record) → read_rest o text rs ls ≡ Ok all → (more : List Record) × (all ≡ rs ++ more)
@@ -122,8 +120,20 @@ decides_rest sheet rows count r v h e is d =
 pub blank-here : (rows : List Record) (i : ℕ) (d : Record) → i < length rows → rows ≡ replicate (length rows) blank → get_or rows i d ≡ blank
 blank-here rows i d h e = ap (λ xs. get_or xs i d) e ∙ get_or-replicate (length rows) i blank d h
 
-pub blank_one_more : (rows : List Record) (i : ℕ) (d : Record) → i < length rows → get_or rows i d ≡ blank → take i rows ≡ replicate i blank → take (i + 1) rows ≡ replicate (i + 1) blank
-blank_one_more rows i d h here e = take_more rows i d h ∙ ap (λ x. take i rows ++ x ∷ []) here ∙ ap (λ xs. xs ++ blank ∷ []) e ∙ replicate_more i blank
+-- a test that came out false decides what does not hold
+pub decides_no : {P : Type 0} → (P → ⊥) → Decides false P
+decides_no h = (λ e. absurd (false≢true e), λ p. absurd (h p))
+
+blanks_only : (rows : List Record) → AllWithin (λ r. r ≡ blank) rows 0 (length rows) → rows ≡ replicate (length rows) blank
+blanks_only [] h = refl
+blanks_only (r ∷ rows) h = ap₂ ◌∷◌ (h 0 r (omega arith) (omega arith)) (blanks_only rows (λ k d a b. h (suc k) d (omega arith) (omega arith)))
+
+-- a test of every record, whether it is blank
+pub all_blank : (rows : List Record) (b : Bool)
+    → MatchBool b (AllWithin (λ r. r ≡ blank) rows 0 (length rows)) ((k : ℕ) × (k < length rows) × HoldsAt (λ r. r ≡ blank → ⊥) rows k)
+    → Decides b (rows ≡ replicate (length rows) blank)
+all_blank rows true h = (λ _. blanks_only rows h, λ _. refl)
+all_blank rows false h = decides_no (λ e. h.2 blank (blank-here rows h.0 blank h.1 e))
 
 pub fault_shows : (v : Result (List Record) ReadFault) (f : ReadFault) (sheet : List Record) → v ≡ Err f → Shows v sheet → ⊥
 fault_shows v f sheet e s = subst (λ w. Shows w sheet) e s

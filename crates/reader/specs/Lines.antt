@@ -8,7 +8,7 @@ use Rattle.records.specs.declared.fault.Cause.TheVariants.{Bytes, Letter, Count,
 use Rattle.reader.specs.declared.known.Known.{Known}
 use Rattle.text.specs.declared.place.Line.{Line}
 use Rattle.text.specs.declared.place.Place.{Place}
-use Rattle.records.specs.declared.range.Range.{Range}
+use Rattle.text.specs.declared.range.Range.{Range}
 use Rattle.records.specs.declared.record.Record.{Record}
 use Rattle.records.specs.declared.rows.Kind.{Kind}
 use Rattle.records.specs.declared.rows.Kind.TheVariants.{Channel, Lock}
@@ -37,7 +37,7 @@ before text rs = record { text = text; records = rs; objects = objects_of rs; ta
 
 -- the same, as the reader holds it
 abbrev pub held : Known → Before
-held k = record { text = k.text.now; records = k.records.now; objects = k.objects.now; tasks = k.tasks.now }
+held k = record { text = k.text.now; records = k.records.now; objects = k.lists.now.objects; tasks = k.lists.now.tasks }
 
 -- the bytes of the field with this number, from 0
 abbrev pub field_bytes : List ℕ → Line → ℕ → List ℕ
@@ -45,7 +45,7 @@ field_bytes text l n = bytes_at text (slice_index_or (fields text l) n nowhere)
 
 -- 3: ended by byte 10, not too long, and of legal bytes
 abbrev pub sound : List ℕ → Line → Result (Unit {0}) Cause
-sound text l = cond (l.ended && (nat_le l.size 40 && every is_legal (part text l.start l.size))) (Ok tt) (Err Bytes)
+sound text l = cond (l.ended && (nat_le l.place.size 40 && every is_legal (bytes_at text l.place))) (Ok tt) (Err Bytes)
 
 -- 4: the first field is one known letter, and the line stands in its section
 
@@ -113,10 +113,10 @@ level_at o text l =
 
 -- 7: no object and no task has the name
 abbrev pub object_named : Before → Place → Option ℕ
-object_named k p = first_named k.text (bytes_at k.text p) (map (λ o. (o.start, o.size)) k.objects)
+object_named k p = first_named k.text (bytes_at k.text p) (map (λ o. (o.name.start, o.name.size)) k.objects)
 
 abbrev pub task_named : List TaskRow → Before → Place → Option ℕ
-task_named rows k p = first_named k.text (bytes_at k.text p) (map (λ t. (t.start, t.size)) rows)
+task_named rows k p = first_named k.text (bytes_at k.text p) (map (λ t. (t.name.start, t.name.size)) rows)
 
 abbrev pub new_name : Before → Place → Result (Unit {0}) Cause
 new_name k p = cond (is_some (object_named k p) || is_some (task_named k.tasks k p)) (Err Declared) (Ok tt)
@@ -129,7 +129,7 @@ same_kind Lock Channel = false
 same_kind Lock Lock = true
 
 abbrev pub no_object : ObjectRow
-no_object = record { start = 0; size = 0; kind = Channel; number = pos 0; extra = pos 0 }
+no_object = record { name = nowhere; kind = Channel; number = pos 0; extra = pos 0 }
 
 abbrev pub is_kind : List ObjectRow → Kind → Option ℕ → Result ℕ Cause
 is_kind rows kind None = Err Unknown
@@ -168,7 +168,7 @@ abbrev pub read_header : Written → Before → Line → Result Record Cause
 read_header o k l =
     and_then (counted k.text l 2) (λ _.
     and_then (word_at k.text l 1 o.word) (λ _.
-    Ok (record { letter = byte "P"; first = 0; second = 0; number = pos 0; extra = pos 0; start = 0; size = 0 })))
+    Ok (record { letter = byte "P"; first = 0; second = 0; number = pos 0; extra = pos 0; name = nowhere })))
 
 -- a channel or a lock
 abbrev pub read_object : Written → Before → Line → ℕ → Result Record Cause
@@ -177,7 +177,7 @@ read_object o k l letter =
     and_then (name_at k.text l 1) (λ name.
     and_then (level_at o k.text l) (λ level.
     and_then (new_name k name) (λ _.
-    Ok (record { letter = letter; first = length k.objects; second = 0; number = level.0; extra = level.1; start = name.start; size = name.size })))))
+    Ok (record { letter = letter; first = length k.objects; second = 0; number = level.0; extra = level.1; name = name })))))
 
 -- what each message on a channel carries
 abbrev pub read_carry : Before → Line → Result Record Cause
@@ -189,14 +189,14 @@ read_carry k l =
     and_then (object_of k Channel carrier) (λ a.
     and_then (object_of k Channel carried) (λ b.
     and_then (new_pair k a b) (λ _.
-    Ok (record { letter = byte "W"; first = a; second = b; number = count; extra = pos 0; start = 0; size = 0 }))))))))
+    Ok (record { letter = byte "W"; first = a; second = b; number = count; extra = pos 0; name = nowhere }))))))))
 
 abbrev pub read_task : Before → Line → Result Record Cause
 read_task k l =
     and_then (counted k.text l 2) (λ _.
     and_then (name_at k.text l 1) (λ name.
     and_then (new_name k name) (λ _.
-    Ok (record { letter = byte "T"; first = length k.tasks; second = 0; number = pos 0; extra = pos 0; start = name.start; size = name.size }))))
+    Ok (record { letter = byte "T"; first = length k.tasks; second = 0; number = pos 0; extra = pos 0; name = name }))))
 
 -- what a task starts with on a channel
 abbrev pub read_count : Before → Line → Result Record Cause
@@ -207,7 +207,7 @@ read_count k l =
     and_then (not_zero count) (λ _.
     and_then (object_of k Channel name) (λ c.
     and_then (new_count k c) (λ _.
-    Ok (record { letter = byte "Q"; first = c; second = 0; number = count; extra = pos 0; start = 0; size = 0 })))))))
+    Ok (record { letter = byte "Q"; first = c; second = 0; number = count; extra = pos 0; name = nowhere })))))))
 
 abbrev pub read_send : Before → Line → Result Record Cause
 read_send k l =
@@ -215,7 +215,7 @@ read_send k l =
     and_then (name_at k.text l 1) (λ name.
     and_then (number_at k.text l 2 (record { low = pos 0; high = pos 65535 })) (λ word.
     and_then (object_of k Channel name) (λ c.
-    Ok (record { letter = byte "S"; first = c; second = 0; number = word; extra = pos 0; start = 0; size = 0 })))))
+    Ok (record { letter = byte "S"; first = c; second = 0; number = word; extra = pos 0; name = nowhere })))))
 
 -- receive, acquire and release name an object of a kind
 abbrev pub read_use : Before → Line → ℕ → Kind → Result Record Cause
@@ -223,14 +223,14 @@ read_use k l letter kind =
     and_then (counted k.text l 2) (λ _.
     and_then (name_at k.text l 1) (λ name.
     and_then (object_of k kind name) (λ x.
-    Ok (record { letter = letter; first = x; second = 0; number = pos 0; extra = pos 0; start = 0; size = 0 }))))
+    Ok (record { letter = letter; first = x; second = 0; number = pos 0; extra = pos 0; name = nowhere }))))
 
 abbrev pub read_start : Before → Line → Result Record Cause
 read_start k l =
     and_then (counted k.text l 2) (λ _.
     and_then (name_at k.text l 1) (λ name.
     and_then (task_above k name) (λ t.
-    Ok (record { letter = byte "F"; first = t; second = 0; number = pos 0; extra = pos 0; start = 0; size = 0 }))))
+    Ok (record { letter = byte "F"; first = t; second = 0; number = pos 0; extra = pos 0; name = nowhere }))))
 
 abbrev pub by_letter : Written → ℕ → Before → Line → Result Record Cause
 by_letter o c k l =

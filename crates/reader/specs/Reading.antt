@@ -16,6 +16,16 @@ use Rattle.tasks.specs.Threads.{sends_in, threads_in}
 
 -- The lines, 3 to 10
 
+-- a record has room after those before it, or the cause is that there is none
+abbrev pub roomed : List Record → Result Record Cause → Result Record Cause
+roomed rs (Ok r) = cond (has_room rs r) (Ok r) (Err Full)
+roomed rs (Err cause) = Err cause
+
+-- a cause is the fault of the line with this number
+abbrev pub at_line : {A : Type 0} → ℕ → Result A Cause → Result A ReadFault
+at_line n (Ok x) = Ok x
+at_line n (Err cause) = Err (BadLine cause n)
+
 -- a record for which there is no room is the last fault of its line; a fault has the line's number
 abbrev pub placed : List Record → Result Record Cause → Result Record ReadFault
 placed rs (Ok r) = cond (has_room rs r) (Ok r) (Err (BadLine Full (length rs + 1)))

@@ -1,11 +1,13 @@
 // What a line is read against.
-use records::{ObjectRow, Record, TaskRow};
+use records::Record;
+use tasks::Lists;
+use text::Line;
 
-// The text, the records of the lines before, and the objects and tasks that these declare.
+// A line, the text in which it stands, the records of the lines before it, and the lists of what these declare.
 #[derive(Clone, Copy)]
 pub struct Known<'a> {
     pub text: &'a [u8],
     pub records: &'a [Record],
-    pub objects: &'a [ObjectRow],
-    pub tasks: &'a [TaskRow],
+    pub lists: &'a Lists,
+    pub line: Line,
 }

@@ -1,6 +1,7 @@
 // Reading a plan text into a sheet of records, and checking a sheet against its text.
 #![tactic(auto)]
 
+mod ensure;
 mod finish;
 mod forms;
 mod header;

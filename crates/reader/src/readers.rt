@@ -4,8 +4,8 @@ ghost use Rattle.reader.specs.Lines.{held, read_header, read_object, read_carry,
 
 use crate::forms::is_not_zero;
 use crate::known::Known;
-use records::{BLANK, Cause, Kind, Range, Record, WrittenOrder};
-use text::Line;
+use records::{BLANK, Cause, Kind, Record, WrittenOrder};
+use text::Range;
 
 // How many credits a message may carry.
 const CARRIED: Range = Range { low: 1, high: 100 };
@@ -24,11 +24,11 @@ const WORDS: Range = Range {
 
 impl Known<'_> {
     // P,order
-    fn read_header<O: WrittenOrder>(&self, line: Line) -> Result<Record, Cause>
-        ensures { result ≡ read_header O.WrittenOrder.written (held self.now) line }
+    fn read_header<O: WrittenOrder>(&self) -> Result<Record, Cause>
+        ensures { result ≡ read_header O.WrittenOrder.written (held self.now) self.now.line }
     {
-        self.has_fields(line, 2)?;
-        self.word_at(line, 1, &O::header_word())?;
+        self.has_fields(2)?;
+        self.word_at(1, &O::header_word())?;
         Ok(Record {
             letter: 'P',
             ..BLANK
@@ -36,32 +36,31 @@ impl Known<'_> {
     }
 
     // C,name,level and K,name,level
-    fn read_object<O: WrittenOrder>(&self, line: Line, letter: char) -> Result<Record, Cause>
-        ensures { result ≡ read_object O.WrittenOrder.written (held self.now) line letter }
+    fn read_object<O: WrittenOrder>(&self, letter: char) -> Result<Record, Cause>
+        ensures { result ≡ read_object O.WrittenOrder.written (held self.now) self.now.line letter }
     {
-        self.has_fields(line, 2 + O::field_count())?;
-        let name = self.name_at(line, 1)?;
-        let (number, extra) = self.level_at::<O>(line)?;
+        self.has_fields(2 + O::FIELDS)?;
+        let name = self.name_at(1)?;
+        let (number, extra) = self.level_at::<O>()?;
         self.is_new(name)?;
         Ok(Record {
             letter,
-            first: self.objects.len(),
+            first: self.lists.object_rows().len(),
             number,
             extra,
-            start: name.start,
-            size: name.size,
+            name,
             ..BLANK
         })
     }
 
     // W,carrier,carried,count
-    fn read_carry(&self, line: Line) -> Result<Record, Cause>
-        ensures { result ≡ read_carry (held self.now) line }
+    fn read_carry(&self) -> Result<Record, Cause>
+        ensures { result ≡ read_carry (held self.now) self.now.line }
     {
-        self.has_fields(line, 4)?;
-        let carrier = self.name_at(line, 1)?;
-        let carried = self.name_at(line, 2)?;
-        let number = self.number_at(line, 3, CARRIED)?;
+        self.has_fields(4)?;
+        let carrier = self.name_at(1)?;
+        let carried = self.name_at(2)?;
+        let number = self.number_at(3, CARRIED)?;
         let first = self.object(Kind::Channel, carrier)?;
         let second = self.object(Kind::Channel, carried)?;
         self.is_new_pair(first, second)?;
@@ -75,28 +74,27 @@ impl Known<'_> {
     }
 
     // T,name
-    fn read_task(&self, line: Line) -> Result<Record, Cause>
-        ensures { result ≡ read_task (held self.now) line }
+    fn read_task(&self) -> Result<Record, Cause>
+        ensures { result ≡ read_task (held self.now) self.now.line }
     {
-        self.has_fields(line, 2)?;
-        let name = self.name_at(line, 1)?;
+        self.has_fields(2)?;
+        let name = self.name_at(1)?;
         self.is_new(name)?;
         Ok(Record {
             letter: 'T',
-            first: self.tasks.len(),
-            start: name.start,
-            size: name.size,
+            first: self.lists.task_rows().len(),
+            name,
             ..BLANK
         })
     }
 
     // Q,channel,count
-    fn read_count(&self, line: Line) -> Result<Record, Cause>
-        ensures { result ≡ read_count (held self.now) line }
+    fn read_count(&self) -> Result<Record, Cause>
+        ensures { result ≡ read_count (held self.now) self.now.line }
     {
-        self.has_fields(line, 3)?;
-        let name = self.name_at(line, 1)?;
-        let number = self.number_at(line, 2, COUNTS)?;
+        self.has_fields(3)?;
+        let name = self.name_at(1)?;
+        let number = self.number_at(2, COUNTS)?;
         is_not_zero(number)?;
         let first = self.object(Kind::Channel, name)?;
         self.is_new_count(first)?;
@@ -109,12 +107,12 @@ impl Known<'_> {
     }
 
     // S,channel,word
-    fn read_send(&self, line: Line) -> Result<Record, Cause>
-        ensures { result ≡ read_send (held self.now) line }
+    fn read_send(&self) -> Result<Record, Cause>
+        ensures { result ≡ read_send (held self.now) self.now.line }
     {
-        self.has_fields(line, 3)?;
-        let name = self.name_at(line, 1)?;
-        let number = self.number_at(line, 2, WORDS)?;
+        self.has_fields(3)?;
+        let name = self.name_at(1)?;
+        let number = self.number_at(2, WORDS)?;
         let first = self.object(Kind::Channel, name)?;
         Ok(Record {
             letter: 'S',
@@ -125,11 +123,11 @@ impl Known<'_> {
     }
 
     // R,channel and A,lock and L,lock
-    fn read_use(&self, line: Line, letter: char, kind: Kind) -> Result<Record, Cause>
-        ensures { result ≡ read_use (held self.now) line letter kind }
+    fn read_use(&self, letter: char, kind: Kind) -> Result<Record, Cause>
+        ensures { result ≡ read_use (held self.now) self.now.line letter kind }
     {
-        self.has_fields(line, 2)?;
-        let name = self.name_at(line, 1)?;
+        self.has_fields(2)?;
+        let name = self.name_at(1)?;
         let first = self.object(kind, name)?;
         Ok(Record {
             letter,
@@ -139,11 +137,11 @@ impl Known<'_> {
     }
 
     // F,task
-    fn read_start(&self, line: Line) -> Result<Record, Cause>
-        ensures { result ≡ read_start (held self.now) line }
+    fn read_start(&self) -> Result<Record, Cause>
+        ensures { result ≡ read_start (held self.now) self.now.line }
     {
-        self.has_fields(line, 2)?;
-        let name = self.name_at(line, 1)?;
+        self.has_fields(2)?;
+        let name = self.name_at(1)?;
         let first = self.task_above(name)?;
         Ok(Record {
             letter: 'F',
@@ -153,31 +151,31 @@ impl Known<'_> {
     }
 
     // The letter chooses the reader of the line.
-    fn by_letter<O: WrittenOrder>(&self, letter: char, line: Line) -> Result<Record, Cause>
-        ensures { result ≡ by_letter O.WrittenOrder.written letter (held self.now) line }
+    fn by_letter<O: WrittenOrder>(&self, letter: char) -> Result<Record, Cause>
+        ensures { result ≡ by_letter O.WrittenOrder.written letter (held self.now) self.now.line }
     {
         match letter {
-            'P' => self.read_header::<O>(line),
-            'C' => self.read_object::<O>(line, 'C'),
-            'K' => self.read_object::<O>(line, 'K'),
-            'W' => self.read_carry(line),
-            'T' => self.read_task(line),
-            'Q' => self.read_count(line),
-            'S' => self.read_send(line),
-            'R' => self.read_use(line, 'R', Kind::Channel),
-            'A' => self.read_use(line, 'A', Kind::Lock),
-            'L' => self.read_use(line, 'L', Kind::Lock),
-            'F' => self.read_start(line),
+            'P' => self.read_header::<O>(),
+            'C' => self.read_object::<O>('C'),
+            'K' => self.read_object::<O>('K'),
+            'W' => self.read_carry(),
+            'T' => self.read_task(),
+            'Q' => self.read_count(),
+            'S' => self.read_send(),
+            'R' => self.read_use('R', Kind::Channel),
+            'A' => self.read_use('A', Kind::Lock),
+            'L' => self.read_use('L', Kind::Lock),
+            'F' => self.read_start(),
             _ => Err(Cause::Letter),
         }
     }
 
     // The record of a line, or what is wrong with it.
-    pub fn read_line<O: WrittenOrder>(&self, line: Line) -> Result<Record, Cause>
-        ensures { result ≡ read_line O.WrittenOrder.written (held self.now) line }
+    pub fn read_line<O: WrittenOrder>(&self) -> Result<Record, Cause>
+        ensures { result ≡ read_line O.WrittenOrder.written (held self.now) self.now.line }
     {
-        self.is_sound(line)?;
-        let letter = self.letter_in_section(line)?;
-        self.by_letter::<O>(letter, line)
+        self.is_sound()?;
+        let letter = self.letter_in_section()?;
+        self.by_letter::<O>(letter)
     }
 }

@@ -3,12 +3,13 @@ ghost use Rattle.std.specs.Prelude.{◌≡◌, ℕ, ◌≤◌, true, [], ◌∷�
 ghost use Rattle.tasks.specs.Records.{blank};
 ghost use Rattle.reader.specs.Reading.{read_lines, reading, verdict, sheet_after, Shows};
 
+use crate::ensure::ensure;
 use crate::finish::finish;
 use crate::reading::read_step;
 use records::limits::{MOST_BYTES, MOST_LINES};
 use records::{BLANK, ReadFault, Record, WrittenOrder};
 use tasks::Lists;
-use text::next_line;
+use text::Lines;
 
 // Makes every record blank.
 fn clear(sheet: &mut [Record])
@@ -25,14 +26,11 @@ fn fill<O: WrittenOrder>(text: &[u8], sheet: &mut [Record]) -> Result<(), ReadFa
 {
     let mut lists = Lists::new();
     let mut count = 0;
-    let mut from = 0;
-    while let Some(line) = next_line(text, from) {
-        let row = read_step::<O>(text, &sheet[0..count], &mut lists, line)?;
-        sheet[count] = row;
+    for line in Lines::of(text) {
+        sheet[count] = read_step::<O>(text, &sheet[..count], &mut lists, line)?;
         count += 1;
-        from = line.start + line.size + 1;
     }
-    finish(&sheet[0..count], &lists)
+    finish(&sheet[..count], &lists)
 }
 
 // Reads the text into the sheet: a record a line, the others blank. After a fault the sheet is blank.
@@ -47,32 +45,18 @@ pub fn read<O: WrittenOrder>(text: &[u8], sheet: &mut [Record]) -> Result<(), Re
     if sheet.len() < MOST_LINES {
         return Err(ReadFault::SheetTooShort);
     }
-    match fill::<O>(text, sheet) {
-        Ok(()) => Ok(()),
-        Err(fault) => {
-            clear(sheet);
-            Err(fault)
-        }
+    let answer = fill::<O>(text, sheet);
+    if answer.is_err() {
+        clear(sheet);
     }
-}
-
-// Whether two records are equal.
-fn same(a: Record, b: Record) -> bool
-    ensures { Decides result (a ≡ b) }
-{
-    a == b
+    answer
 }
 
 // Whether every record is blank.
 fn is_blank(rows: &[Record]) -> bool
     ensures { Decides result (rows.now ≡ replicate (length rows.now) blank) }
 {
-    for row in rows {
-        if !same(*row, BLANK) {
-            return false;
-        }
-    }
-    true
+    rows.iter().all(|row| *row == BLANK)
 }
 
 // Whether the lines of the text give no fault and exactly this sheet.
@@ -82,20 +66,13 @@ fn shows<O: WrittenOrder>(text: &[u8], sheet: &[Record]) -> bool
 {
     let mut lists = Lists::new();
     let mut count = 0;
-    let mut from = 0;
-    while let Some(line) = next_line(text, from) {
-        match read_step::<O>(text, &sheet[0..count], &mut lists, line) {
-            Ok(row) => {
-                if !same(row, sheet[count]) {
-                    return false;
-                }
-                count += 1;
-                from = line.start + line.size + 1;
-            }
-            Err(_) => return false,
+    for line in Lines::of(text) {
+        match read_step::<O>(text, &sheet[..count], &mut lists, line) {
+            Ok(row) if row == sheet[count] => count += 1,
+            _ => return false,
         }
     }
-    finish(&sheet[0..count], &lists).is_ok() && is_blank(&sheet[count..])
+    finish(&sheet[..count], &lists).is_ok() && is_blank(&sheet[count..])
 }
 
 // Answers Ok just where reading the text gives no fault and exactly this sheet. It only reads both.
@@ -103,9 +80,8 @@ pub fn check<O: WrittenOrder>(text: &[u8], sheet: &[Record]) -> Result<(), ReadF
     ensures answer { Decides (is_ok result) (Shows (reading O.WrittenOrder.written text.now (length sheet.now)) sheet.now) }
     ensures fault { IfErr result (λ f. f ≡ ReadFault.SheetDiffers) }
 {
-    if text.len() <= MOST_BYTES && sheet.len() >= MOST_LINES && shows::<O>(text, sheet) {
-        Ok(())
-    } else {
-        Err(ReadFault::SheetDiffers)
-    }
+    ensure(
+        text.len() <= MOST_BYTES && sheet.len() >= MOST_LINES && shows::<O>(text, sheet),
+        ReadFault::SheetDiffers,
+    )
 }

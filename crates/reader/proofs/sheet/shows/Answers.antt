@@ -1,34 +1,24 @@
-use Rattle.std.proofs.Common.{◌≡◌, ◌+◌, ◌<◌, ◌≤◌, true, false, [], ◌∷◌, ◌++◌, length, get_or, take, is_ok, Decides, sym, ap, ◌∙◌, subst, arith}
+use Rattle.std.proofs.Common.{◌≡◌, ◌+◌, ◌<◌, ◌≤◌, true, false, [], ◌∷◌, ◌++◌, length, get_or, take, is_ok, Decides, sym, ap, ◌∙◌, subst, arith, rules, tests}
 use Rattle.std.proofs.lemmas.List.{take_more, take_rest, length-take-le}
 use Rattle.std.proofs.lemmas.Bool.{false≢true}
+use Rattle.tasks.specs.Records.{blank, view_of}
+use Rattle.text.specs.Left.{lines_left}
+use Rattle.text.specs.Text.{lines}
 use Rattle.reader.specs.Lines.{and_then}
-use Rattle.reader.specs.Reading.{Shows, ended, finished, read_lines, read_rest}
-use Rattle.tasks.specs.Records.{blank, tasks_of, view_of}
-use Rattle.reader.specs.Stepped.{Stepped}
-use Rattle.text.specs.Text.{lines, lines_from}
+use Rattle.reader.specs.Reading.{Shows, ended, read_lines, read_rest}
 use Rattle.reader.proofs.Next.{rest_more}
-use Rattle.reader.proofs.Sheets.{decides_no, decides_rest, ended-fault, ended_ok, front-is, lines-ended, shown-here}
+use Rattle.reader.proofs.Sheets.{decides_no, decides_rest, ended-fault, ended_ok, lines-ended, shown-here}
 use Rattle.reader.proofs.sheet.shows.Given as given
 use Rattle.reader.proofs.sheet.shows.Goals as goal
 use Rattle.reader.proofs.sheet.shows.Goals.{After-finish, In-Ok}
 
--- the step, in the words of the invariant
-stepped : (g : given.Over) (c : In-Ok g) → Stepped g.O.WrittenOrder.written c.args.text.now (take c.loop-line.count c.args.sheet.now) c.in-Some.line c.read_step.new.lists c.in-Ok.row
-stepped g c =
-    subst (λ rs. Stepped g.O.WrittenOrder.written c.args.text.now rs c.in-Some.line c.read_step.new.lists c.in-Ok.row)
-    (front-is c.args.sheet.now c.loop-line.count) c.in-Ok.ensures
-
 -- a record was read: the lines after this one go on from it
 goes_on : (g : given.Over) (c : In-Ok g)
     → read_rest g.O.WrittenOrder.written c.args.text.now [] (lines c.args.text.now)
-    ≡ read_rest g.O.WrittenOrder.written c.args.text.now (take c.loop-line.count c.args.sheet.now ++ c.in-Ok.row ∷ [])
-    (lines_from c.args.text.now (c.in-Some.line.start + c.in-Some.line.size + 1))
+    ≡ read_rest g.O.WrittenOrder.written c.args.text.now (take c.loop-line.count c.args.sheet.now ++ c.in-Ok.row ∷ []) (lines_left c.next.new.self)
 goes_on g c =
     c.loop-line.invariant.1
-    ∙ rest_more g.O.WrittenOrder.written c.args.text.now (take c.loop-line.count c.args.sheet.now) c.in-Some.line _ _ c.in-Some.ensures.cuts c.in-Ok.row (stepped g c).next
-
-pub loop-line-smaller : goal.loop-line-smaller
-loop-line-smaller g c = let at = c.in-Some.ensures in omega (arith, at.starts, at.begun, at.inside)
+    ∙ rest_more g.O.WrittenOrder.written c.args.text.now (take c.loop-line.count c.args.sheet.now) c.in-Some.line _ _ c.in-Some.ensures.steps c.in-Ok.row (sym c.in-Ok.ensures.read)
 
 -- the record that was read is that of the sheet
 pub loop-line-preserved : goal.loop-line-preserved
@@ -37,42 +27,38 @@ loop-line-preserved g c =
     let text = c.args.text.now in
     let sheet = c.args.sheet.now in
     let count = c.loop-line.count in
-    let line = c.in-Some.line in
     let a = (goal.at.loop-line-preserved g c).In-Ok in
-    let s = stepped g a in
+    let step = c.in-Ok.ensures in
     let within : count ≤ length sheet = omega (arith, c.loop-line.invariant.0, c.requires) in
-    let few : count < 800 = omega (arith, s.room, length-take-le count sheet within) in
+    let few : count < 800 = omega (arith, step.room, length-take-le count sheet within) in
     let less : count < length sheet = omega (arith, few, c.requires) in
-    let more : take count sheet ++ c.in-Ok.row ∷ [] ≡ take (count + 1) sheet =
-    ap (λ r. take count sheet ++ r ∷ []) (c.same.ensures.0 c.if-not-same.false) ∙ sym (take_more sheet count blank less) in (
+    let same : c.in-Ok.row ≡ get_or sheet count blank = search (rules, tests) in
+    let more : take count sheet ++ c.in-Ok.row ∷ [] ≡ take (count + 1) sheet = ap (λ r. take count sheet ++ r ∷ []) same ∙ sym (take_more sheet count blank less) in (
       omega arith,
-      goes_on g a ∙ ap (λ rs. read_rest o text rs (lines_from text (line.start + line.size + 1))) more,
-      s.listed ∙ ap view_of more,
+      goes_on g a ∙ ap (λ rs. read_rest o text rs (lines_left c.next.new.self)) more,
+      step.listed ∙ ap view_of more,
     )
 
-pub returns-then-not-same : goal.returns-then-not-same
-returns-then-not-same g c =
+pub returns-in_default : goal.returns-in_default
+returns-in_default g c =
     let o = g.O.WrittenOrder.written in
     let text = c.args.text.now in
     let sheet = c.args.sheet.now in
     let count = c.loop-line.count in
-    let line = c.in-Some.line in
     let row = c.in-Ok.row in
     let size = length-take-le count sheet (omega (arith, c.loop-line.invariant.0, c.requires)) in
-    let after = lines_from text (line.start + line.size + 1) in
-    let whole : read_lines o text ≡ and_then (read_rest o text (take count sheet ++ row ∷ []) after) ended = ap (λ v. and_then v ended) (goes_on g (goal.at.returns-then-not-same g c).In-Ok) in
+    let after = lines_left c.next.new.self in
+    let whole : read_lines o text ≡ and_then (read_rest o text (take count sheet ++ row ∷ []) after) ended = ap (λ v. and_then v ended) (goes_on g (goal.at.returns-in_default g c).In-Ok) in
+    let differ : row ≡ get_or sheet count blank → ⊥ = search rules in
     decides_no (λ shown-sheet.
     let here = shown-here o text after (take count sheet) row blank sheet _ (sym whole) shown-sheet in
-    false≢true (sym c.if-not-same.true ∙ c.same.ensures.1 (sym (ap (λ n. get_or sheet n blank) (sym size) ∙ here))))
+    differ (sym (ap (λ n. get_or sheet n blank) (sym size) ∙ here)))
 
 -- after all lines
 whole : (g : given.Over) (c : After-finish g) → read_lines g.O.WrittenOrder.written c.args.text.now ≡ ended (take c.loop-line.count c.args.sheet.now)
 whole g c =
     let rs = take c.loop-line.count c.args.sheet.now in
-    lines-ended g.O.WrittenOrder.written c.args.text.now rs (c.loop-line.invariant.1 ∙ ap (read_rest g.O.WrittenOrder.written c.args.text.now rs) c.in_default.ensures)
-
-done : (g : given.Over) (c : After-finish g) → c.finish.result ≡ finished (take c.loop-line.count c.args.sheet.now) (tasks_of (take c.loop-line.count c.args.sheet.now))
-done g c = c.finish.ensures ∙ ap (λ xs. finished xs (tasks_of xs)) (front-is c.args.sheet.now c.loop-line.count)
+    lines-ended g.O.WrittenOrder.written c.args.text.now rs (c.loop-line.invariant.1 ∙ ap (read_rest g.O.WrittenOrder.written c.args.text.now rs) c.in-None.ensures.steps.0)
 
 pub returns-then-is_ok : goal.returns-then-is_ok
 returns-then-is_ok g c =
@@ -80,7 +66,7 @@ returns-then-is_ok g c =
     let count = c.loop-line.count in
     let a = (goal.at.returns-then-is_ok g c).After-finish in
     let ok : is_ok c.finish.result ≡ true = sym c.is_ok.ensures.value ∙ c.if-is_ok.true in
-    decides_rest sheet _ count c.is_blank.result _ (omega (arith, c.loop-line.invariant.0, c.requires)) (whole g a ∙ ended_ok (take count sheet) c.finish.result (done g a) ok)
+    decides_rest sheet _ count c.is_blank.result _ (omega (arith, c.loop-line.invariant.0, c.requires)) (whole g a ∙ ended_ok (take count sheet) c.finish.result c.finish.ensures ok)
     (take_rest sheet count) c.is_blank.ensures
 
 pub returns-else-is_ok : goal.returns-else-is_ok
@@ -90,5 +76,5 @@ returns-else-is_ok g c =
     let a = (goal.at.returns-else-is_ok g c).After-finish in
     let bad : is_ok c.finish.result ≡ false = sym c.is_ok.ensures.value ∙ c.if-is_ok.false in
     let no-sheet : Shows (read_lines g.O.WrittenOrder.written c.args.text.now) sheet → ⊥ =
-    λ shown. ended-fault rs c.finish.result sheet (done g a) bad (subst (λ v. Shows v sheet) (whole g a) shown) in
+    λ shown. ended-fault rs c.finish.result sheet c.finish.ensures bad (subst (λ v. Shows v sheet) (whole g a) shown) in
     subst (λ b. Decides b (Shows (read_lines g.O.WrittenOrder.written c.args.text.now) sheet)) (sym c.if-is_ok.false) (decides_no no-sheet)

@@ -1,7 +1,7 @@
-use Rattle.std.proofs.Common.{◌≡◌, ◌-◌, ◌≤◌, [], length, take}
+use Rattle.std.proofs.Common.{◌≡◌, ◌≤◌, [], take}
 use Rattle.tasks.specs.Records.{view_of}
-use Rattle.tasks.specs.Shown.{shown}
-use Rattle.text.specs.Text.{lines, lines_from}
+use Rattle.text.specs.Left.{lines_left}
+use Rattle.text.specs.Text.{lines}
 use Rattle.reader.specs.Reading.{read_rest}
 use Rattle.reader.proofs.sheet.shows.Given as goal
 
@@ -9,8 +9,5 @@ use Rattle.reader.proofs.sheet.shows.Given as goal
 abbrev pub invariant-loop-line : goal.invariant-loop-line
 invariant-loop-line g l =
     (l.count ≤ 800)
-    × (read_rest g.O.WrittenOrder.written l.text [] (lines l.text) ≡ read_rest g.O.WrittenOrder.written l.text (take l.count l.sheet) (lines_from l.text l.from))
-    × (shown l.lists ≡ view_of (take l.count l.sheet))
-
-abbrev pub decreases-loop-line : goal.decreases-loop-line
-decreases-loop-line g l = length l.text - l.from
+    × (read_rest g.O.WrittenOrder.written l.text [] (lines l.text) ≡ read_rest g.O.WrittenOrder.written l.text (take l.count l.sheet) (lines_left l.line-iterator))
+    × (l.lists ≡ view_of (take l.count l.sheet))
