@@ -1,93 +1,59 @@
 -- Laws of the messages of one channel. Assumes nothing.
-use Rattle.std.proofs.Common.{◌≡◌, ℕ, suc, ◌+◌, ◌-◌, ◌<◌, ◌≤◌, Bool, true, false, cond, eqb, ltb, ◌≢◌, List, [], ◌∷◌, ◌++◌, length, get_or, take, drop, set, sym, refl, ap, ◌∙◌, subst, ⊎_elim, add-one, arith}
-use Rattle.std.proofs.lemmas.List.{take_more, take_more_set, append-nil, take-append-drop, length-take-le, drop_more, get_or-take, get_or-set_same, get_or-set_other}
-use Rattle.std.proofs.lemmas.Bool.{lt-ltb, eq-eqb, ne_eqb, cases_eq}
-use lib.Seq.{take-append-add}
-use Rattle.std.specs.List.{remove}
+use Rattle.std.proofs.Common.{◌≡◌, ℕ, suc, ◌+◌, ◌-◌, ◌<◌, ◌≤◌, Bool, true, false, cond, eqb, ltb, ◌≢◌, List, [], ◌∷◌, ◌++◌, length, get_or, take, drop, set, map, Some, None, sym, refl, ap, ◌∙◌, subst, ⊎_elim, add-one, arith, rules}
+use Rattle.std.proofs.lemmas.List.{append-nil, take-append-drop, take-append-le, take_all, take_more_set, drop_more, map-append, length-map, length-append, length-take, length-drop, length-set, length-take-le, get_or-take}
+use Rattle.std.proofs.lemmas.List.Edits.{take-paste, length-paste}
+use Rattle.std.proofs.lemmas.List.Elements.{All-head, All-tail, All-push, All-same, All-append, All-take, All-drop, filter-append}
+use Rattle.std.proofs.lemmas.List.Quantifiers.{position-Some}
+use Rattle.std.proofs.lemmas.List.Sums.{length-filter, fails_before_first}
+use Rattle.std.proofs.lemmas.Bool.{lt-ltb, eq-eqb, ne_eqb, eqb-true, cases_lt}
+use lib.Seq.{paste}
+use Rattle.std.specs.List.{All, remove, copy_within, filter, count_by, position, position_or_len}
 use Rattle.model.specs.Program.{sum}
 use Rattle.model.proofs.Sums.{sum_same, sum_change, sum_zero}
-use Rattle.mailbox.proofs.Rooms.{low_at}
+use Rattle.mailbox.proofs.Rooms.{low_at, free_le}
 use Rattle.mailbox.specs.Contract.{together}
-use Rattle.mailbox.specs.Entries.{chosen, Filed}
+use Rattle.mailbox.specs.Entries.{chosen, listed}
 use Rattle.mailbox.specs.declared.entry.Entry.{Entry}
 
-module _ {T : Type 0} where
-  cond_append : (b : Bool) (x : T) (xs ys : List T) → cond b (x ∷ (xs ++ ys)) (xs ++ ys) ≡ cond b (x ∷ xs) xs ++ ys
-  cond_append true x xs ys = refl
-  cond_append false x xs ys = refl
-
-  pub chosen-append : (c : ℕ) (xs ys : List (Entry T)) → chosen c (xs ++ ys) ≡ chosen c xs ++ chosen c ys
-  chosen-append c [] ys = refl
-  chosen-append c (e ∷ es) ys =
-      ap (λ z. cond (eqb e.channel c) (e.message ∷ z) z) (chosen-append c es ys) ∙ cond_append (eqb e.channel c) e.message (chosen c es) (chosen c ys)
-
-  pub chosen-one : (c : ℕ) (e : Entry T) → e.channel ≡ c → chosen c (e ∷ []) ≡ e.message ∷ []
-  chosen-one c e h = ap (λ b. cond b (e.message ∷ []) []) (eq-eqb e.channel c h)
-
-  pub chosen-other : (c : ℕ) (e : Entry T) → (e.channel ≡ c → ⊥) → chosen c (e ∷ []) ≡ []
-  chosen-other c e h = ap (λ b. cond b (e.message ∷ []) []) (ne_eqb e.channel c h)
-
-  pub chosen_more : (c : ℕ) (xs : List (Entry T)) (i : ℕ) (d : Entry T) → i < length xs → chosen c (take (i + 1) xs) ≡ chosen c (take i xs) ++ chosen c (get_or xs i d ∷ [])
-  chosen_more c xs i d h = ap (chosen c) (take_more xs i d h) ∙ chosen-append c (take i xs) (get_or xs i d ∷ [])
-
-  pub chosen-put : (c : ℕ) (xs : List (Entry T)) (i : ℕ) (e : Entry T) → i < length xs → chosen c (take (i + 1) (set xs i e)) ≡ chosen c (take i xs) ++ chosen c (e ∷ [])
-  chosen-put c xs i e h = ap (chosen c) (take_more_set xs i e h) ∙ chosen-append c (take i xs) (e ∷ [])
+none_pass : {X : Type 0} (p : X → Bool) (xs : List X) → All (λ x. p x ≡ false) xs → filter p xs ≡ []
+none_pass p [] h = refl
+none_pass p (x ∷ xs) h = ap (λ b. cond b (x ∷ filter p xs) (filter p xs)) (All-head (λ x. p x ≡ false) x xs h) ∙ none_pass p xs (All-tail (λ x. p x ≡ false) x xs h)
 
 module _ {T : Type 0} where
-  abbrev pub told : ℕ → T → Entry T
-  told c m = record { channel = c; message = m }
+  abbrev pub is_of : ℕ → Entry T → Bool
+  is_of c e = eqb e.channel c
 
-  pub put_same : (xs : List (Entry T)) (n c : ℕ) (m : T) → c < 32 → n < length xs → cond (ltb c 32) (chosen c (take (n + 1) (set xs n (told c m)))) [] ≡ cond (ltb c 32) (chosen c (take n xs)) [] ++ m ∷ []
-  put_same xs n c m low lt =
-      let t = lt-ltb c 32 low in
-      ap (λ b. cond b (chosen c (take (n + 1) (set xs n (told c m)))) []) t
-      ∙ chosen-put c xs n (told c m) lt
-      ∙ ap (λ z. chosen c (take n xs) ++ z) (chosen-one c (told c m) refl)
-      ∙ ap (λ b. cond b (chosen c (take n xs)) [] ++ m ∷ []) (sym t)
+  abbrev text : Entry T → T
+  text e = e.message
 
-  pub put_other : (xs : List (Entry T)) (n c : ℕ) (m : T) → n < length xs → (k : ℕ) → (k ≡ c → ⊥) → cond (ltb k 32) (chosen k (take (n + 1) (set xs n (told c m)))) [] ≡ cond (ltb k 32) (chosen k (take n xs)) []
-  put_other xs n c m lt k ne =
-      ap (λ z. cond (ltb k 32) z [])
-      (chosen-put k xs n (told c m) lt ∙ ap (λ z. chosen k (take n xs) ++ z) (chosen-other k (told c m) (λ e. ne (sym e))) ∙ append-nil (chosen k (take n xs)))
+  pub chosen-count : (c : ℕ) (es : List (Entry T)) → length (chosen c es) ≡ count_by (is_of c) es
+  chosen-count c es = length-map (filter (is_of c) es) text ∙ length-filter (is_of c) es
 
--- E is what the memory held, N what it holds once the entry at a place has gone
-module _ {T : Type 0} (E N : List (Entry T)) (at n m : ℕ) (d : Entry T) (lt : at < n) (le : n ≤ length E) (down : m ≡ n - 1) (items : take (n - 1) N ≡ take (n - 1) (remove E at)) where
-  abbrev rest : List (Entry T)
-  rest = take (n - 1 - at) (drop (suc at) E)
+  chosen-append : (c : ℕ) (xs ys : List (Entry T)) → chosen c (xs ++ ys) ≡ chosen c xs ++ chosen c ys
+  chosen-append c xs ys = ap (map text) (filter-append (is_of c) xs ys) ∙ map-append text (filter (is_of c) xs) (filter (is_of c) ys)
 
-  front : length (take at E) ≡ at
-  front = length-take-le at E (omega arith)
+  -- an entry of channel c before others, and one of another channel
+  chosen-one : (c : ℕ) (e : Entry T) (es : List (Entry T)) → e.channel ≡ c → chosen c (e ∷ es) ≡ e.message ∷ chosen c es
+  chosen-one c e es h = ap (λ b. map text (cond b (e ∷ filter (is_of c) es) (filter (is_of c) es))) (eq-eqb e.channel c h)
 
-  before : take n E ≡ take at E ++ (get_or E at d ∷ rest)
-  before =
-      let x : E ≡ take at E ++ (get_or E at d ∷ drop (suc at) E) =
-      sym (take-append-drop at E) ∙ ap (λ z. take at E ++ z) (drop_more E at d (omega arith) ∙ ap (λ i. get_or E at d ∷ drop i E) (add-one at)) in
-      let l = front in
-      let k : n ≡ length (take at E) + suc (n - 1 - at) = omega (arith, l) in
-      ap (take n) x ∙ ap (λ i. take i (take at E ++ (get_or E at d ∷ drop (suc at) E))) k ∙ take-append-add (take at E) (get_or E at d ∷ drop (suc at) E) (suc (n - 1 - at))
+  chosen-other : (c : ℕ) (e : Entry T) (es : List (Entry T)) → e.channel ≢ c → chosen c (e ∷ es) ≡ chosen c es
+  chosen-other c e es h = ap (λ b. map text (cond b (e ∷ filter (is_of c) es) (filter (is_of c) es))) (ne_eqb e.channel c h)
 
-  after : take m N ≡ take at E ++ rest
-  after =
-      let l = front in
-      let k : n - 1 ≡ length (take at E) + (n - 1 - at) = omega (arith, l) in
-      ap (λ i. take i N) down ∙ items ∙ ap (λ i. take i (take at E ++ drop (suc at) E)) k ∙ take-append-add (take at E) (drop (suc at) E) (n - 1 - at)
+  -- what the first place of a channel says of its messages
+  pub none_chosen : (c : ℕ) (es : List (Entry T)) → None ≡ position (is_of c) es → chosen c es ≡ []
+  none_chosen c es h =
+      ⊎_elim
+      (λ (lt : position_or_len (is_of c) es < length es).
+      let e : position (is_of c) es ≡ Some (position_or_len (is_of c) es) = ap (λ b. cond b (Some (position_or_len (is_of c) es)) None) (lt-ltb (position_or_len (is_of c) es) (length es) lt) in
+      absurd (search (rules, h ∙ e)))
+      (λ (le : length es ≤ position_or_len (is_of c) es). ap (map text) (none_pass (is_of c) es (λ k d lt. fails_before_first (is_of c) es k d (omega arith))))
+      (cases_lt (position_or_len (is_of c) es) (length es))
 
-  pub left_first : (c : ℕ) → c < 32 → (get_or E at d).channel ≡ c → chosen c (take at E) ≡ [] → cond (ltb c 32) (chosen c (take n E)) [] ≡ (get_or E at d).message ∷ cond (ltb c 32) (chosen c (take m N)) []
-  left_first c low here none =
-      let t = lt-ltb c 32 low in
-      let a : chosen c (take n E) ≡ (get_or E at d).message ∷ chosen c rest =
-      ap (chosen c) before ∙ chosen-append c (take at E) (get_or E at d ∷ rest) ∙ ap (λ z. z ++ chosen c (get_or E at d ∷ rest)) none
-      ∙ ap (λ b. cond b ((get_or E at d).message ∷ chosen c rest) (chosen c rest)) (eq-eqb (get_or E at d).channel c here) in
-      let b : chosen c (take m N) ≡ chosen c rest = ap (chosen c) after ∙ chosen-append c (take at E) rest ∙ ap (λ z. z ++ chosen c rest) none in
-      ap (λ q. cond q (chosen c (take n E)) []) t ∙ a ∙ ap (λ z. (get_or E at d).message ∷ z) (sym (ap (λ q. cond q (chosen c (take m N)) []) t ∙ b))
-
-  pub left_other : (c : ℕ) → (get_or E at d).channel ≡ c → (k : ℕ) → (k ≡ c → ⊥) → cond (ltb k 32) (chosen k (take m N)) [] ≡ cond (ltb k 32) (chosen k (take n E)) []
-  left_other c here k ne =
-      let a : chosen k (take n E) ≡ chosen k (take at E) ++ chosen k rest =
-      ap (chosen k) before ∙ chosen-append k (take at E) (get_or E at d ∷ rest)
-      ∙ ap (λ b. chosen k (take at E) ++ cond b ((get_or E at d).message ∷ chosen k rest) (chosen k rest)) (ne_eqb (get_or E at d).channel k (λ e. ne (sym e ∙ here))) in
-      let b : chosen k (take m N) ≡ chosen k (take at E) ++ chosen k rest = ap (chosen k) after ∙ chosen-append k (take at E) rest in
-      ap (λ z. cond (ltb k 32) z []) (b ∙ sym a)
+  none_before : (c : ℕ) (es : List (Entry T)) (i : ℕ) → position (is_of c) es ≡ Some i → chosen c (take i es) ≡ []
+  none_before c es i h =
+      ap (map text) (none_pass (is_of c) (take i es) (λ k e lt.
+      let low : k < i = omega (arith, length-take i es) in
+      ap (is_of c) (get_or-take i es k e low) ∙ (position-Some (is_of c) es i e h).2 k low))
 
 -- how many entries there are of the channels below n, where each has one
 module _ {T : Type 0} where
@@ -95,36 +61,112 @@ module _ {T : Type 0} where
   sum_one ch n e es h lt =
       let f : ℕ → ℕ = λ d. length (chosen d es) in
       let g : ℕ → ℕ = λ d. length (chosen d (e ∷ es)) in
-      let at : g ch ≡ suc (f ch) = ap (λ b. length (cond b (e.message ∷ chosen ch es) (chosen ch es))) (eq-eqb e.channel ch h) in
-      let off : (u : ℕ) → u < n → u ≢ ch → g u ≡ f u = λ u k ne. ap (λ b. length (cond b (e.message ∷ chosen u es) (chosen u es))) (ne_eqb e.channel u (λ q. ne (sym q ∙ h))) in
+      let at : g ch ≡ suc (f ch) = ap length (chosen-one ch e es h) in
+      let off : (u : ℕ) → u < n → u ≢ ch → g u ≡ f u = λ u k ne. ap length (chosen-other u e es (λ q. ne (sym q ∙ h))) in
       let s : sum g n + f ch ≡ sum f n + g ch = sum_change f g n ch lt off in
       omega (arith, s, at)
 
-  pub all-chosen : (n : ℕ) (es : List (Entry T)) → ((k : ℕ) (e : Entry T) → k < length es → (get_or es k e).channel < n) → sum (λ d. length (chosen d es)) n ≡ length es
+  all-chosen : (n : ℕ) (es : List (Entry T)) → All (λ e. e.channel < n) es → sum (λ d. length (chosen d es)) n ≡ length es
   all-chosen n [] h = sum_zero (λ d. 0) n (λ u k. refl)
   all-chosen n (e ∷ es) h =
-      let r = all-chosen n es (λ k d lt. h (suc k) d (omega arith)) in
-      let o = sum_one e.channel n e es refl (h 0 e (omega arith)) in
+      let r = all-chosen n es (All-tail (λ e. e.channel < n) e es h) in
+      let o = sum_one e.channel n e es refl (All-head (λ e. e.channel < n) e es h) in
       omega (arith, r, o)
 
-  pub all-counted : (n : ℕ) (xs : List (Entry T)) → n ≤ length xs → Filed n xs → together (λ d. cond (ltb d 32) (chosen d (take n xs)) []) ≡ n
+  pub all-counted : (es : List (Entry T)) → All (λ e. e.channel < 32) es → together (listed es) ≡ length es
   unfolding together
-  all-counted n xs le filed =
-      let l : length (take n xs) ≡ n = length-take-le n xs le in
-      let a = all-chosen 32 (take n xs) (λ k e lt. let q : k < n = omega (arith, l, lt) in subst (λ x. x.channel < 32) (sym (get_or-take n xs k e q)) (filed k e q)) in
-      let b = sum_same (λ d. length (chosen d (take n xs))) (λ d. length (cond (ltb d 32) (chosen d (take n xs)) [])) 32 (λ u h. ap length (low_at u (chosen u (take n xs)) [] h)) in
-      b ∙ a ∙ l
+  all-counted es filed =
+      sum_same (λ d. length (chosen d es)) (λ d. length (listed es d)) 32 (λ u h. ap length (low_at u (chosen u es) [] h)) ∙ all-chosen 32 es filed
 
-  pub filed_put : (n : ℕ) (xs : List (Entry T)) (x : Entry T) → n < length xs → Filed n xs → x.channel < 32 → Filed (n + 1) (set xs n x)
-  filed_put n xs x l filed low k e h =
-      ⊎_elim
-      (λ (q : k ≡ n). subst (λ j. (get_or (set xs n x) j e).channel < 32) (sym q) (subst (λ y. y.channel < 32) (sym (get_or-set_same xs n x e l)) low))
-      (λ (ne : k ≡ n → ⊥). subst (λ y. y.channel < 32) (sym (get_or-set_other xs n k x e ne)) (filed k e (omega arith)))
-      (cases_eq k n)
+  -- a pool of which the first n entries are in use
+  pub counted : (mem : List (Entry T)) (n : ℕ) → n ≤ length mem → All (λ e. e.channel < 32) (take n mem) → together (listed (take n mem)) ≡ n
+  counted mem n le filed = all-counted (take n mem) filed ∙ length-take-le n mem le
 
-  pub filed_over : (n : ℕ) (xs : List (Entry T)) (i : ℕ) (x : Entry T) → i < length xs → Filed n xs → x.channel < 32 → Filed n (set xs i x)
-  filed_over n xs i x l filed low k e h =
-      ⊎_elim
-      (λ (q : k ≡ i). subst (λ j. (get_or (set xs i x) j e).channel < 32) (sym q) (subst (λ y. y.channel < 32) (sym (get_or-set_same xs i x e l)) low))
-      (λ (ne : k ≡ i → ⊥). subst (λ y. y.channel < 32) (sym (get_or-set_other xs i k x e ne)) (filed k e h))
-      (cases_eq k i)
+  pub room-is : (mem : List (Entry T)) (n c : ℕ) → c < 32 → n ≤ length mem → All (λ e. e.channel < 32) (take n mem) → cond (ltb c 32) (length mem - together (listed (take n mem))) 0 ≡ length mem - n
+  room-is mem n c low le filed = low_at c (length mem - together (listed (take n mem))) 0 low ∙ ap (λ w. length mem - w) (counted mem n le filed)
+
+-- one message more
+module _ {T : Type 0} (mem : List (Entry T)) (n c : ℕ) (m : T) (lt : n < length mem) where
+  abbrev pub told : Entry T
+  told = record { channel = c; message = m }
+
+  pub entries_more : take (n + 1) (set mem n told) ≡ take n mem ++ told ∷ []
+  entries_more = take_more_set mem n told lt
+
+  pub joined : c < 32 → listed (take (n + 1) (set mem n told)) c ≡ listed (take n mem) c ++ m ∷ []
+  joined low =
+      low_at c (chosen c (take (n + 1) (set mem n told))) [] low
+      ∙ ap (chosen c) entries_more
+      ∙ chosen-append c (take n mem) (told ∷ [])
+      ∙ ap (λ z. chosen c (take n mem) ++ z) (chosen-one c told [] refl)
+      ∙ ap (λ z. z ++ m ∷ []) (sym (low_at c (chosen c (take n mem)) [] low))
+
+  pub joined_others : (k : ℕ) → k ≢ c → listed (take (n + 1) (set mem n told)) k ≡ listed (take n mem) k
+  joined_others k ne =
+      ap (λ z. cond (ltb k 32) z [])
+      (ap (chosen k) entries_more ∙ chosen-append k (take n mem) (told ∷ []) ∙ ap (λ z. chosen k (take n mem) ++ z) (chosen-other k told [] (λ e. ne (sym e))) ∙ append-nil (chosen k (take n mem)))
+
+  pub filed_more : c < 32 → All (λ e. e.channel < 32) (take n mem) → All (λ e. e.channel < 32) (take (n + 1) (set mem n told))
+  filed_more low filed = All-same (λ e. e.channel < 32) _ _ entries_more (All-push (λ e. e.channel < 32) (take n mem) told filed low)
+
+  pub roomy_joined : c < 32 → All (λ e. e.channel < 32) (take n mem) → (d : ℕ) → cond (ltb d 32) (length mem - together (listed (take n mem))) 0 ≤ suc (cond (ltb d 32) (length (set mem n told) - together (listed (take (n + 1) (set mem n told)))) 0)
+  roomy_joined low filed d =
+      let l = length-set mem n told in
+      let before = counted mem n (omega arith) filed in
+      let after = counted (set mem n told) (n + 1) (omega (arith, l)) (filed_more low filed) in
+      free_le (length mem) (length (set mem n told)) (together (listed (take n mem))) (together (listed (take (n + 1) (set mem n told)))) l (omega (arith, before, after)) d
+
+-- A pool of which the first n entries are in use: those after a place move up by one, over the one that stood there.
+pub gap_closed : {X : Type 0} (mem moved : List X) (n i : ℕ) → n ≤ length mem → i < n → moved ≡ copy_within (take n mem) (i + 1) (length (take n mem)) i → take (n - 1) (moved ++ drop n mem) ≡ remove (take n mem) i
+gap_closed mem moved n i fits lt made =
+    let xs = take n mem in
+    let s = drop (i + 1) xs in
+    let k : ℕ = length xs - (i + 1) in
+    let long : length xs ≡ n = length-take-le n mem fits in
+    let l : length s ≡ k = length-drop (i + 1) xs in
+    let whole = length-paste xs i s k (omega arith) (omega (arith, l)) in
+    let at : n - 1 ≡ i + k = omega arith in
+    ap (λ z. take (n - 1) (z ++ drop n mem)) made
+    ∙ take-append-le (n - 1) (paste xs i s k) (drop n mem) (omega (arith, whole))
+    ∙ ap (λ j. take j (paste xs i s k)) at
+    ∙ take-paste xs i s k (omega arith) (omega (arith, l))
+    ∙ ap (λ z. take i xs ++ z) (take_all k s (omega (arith, l)))
+    ∙ ap (λ j. take i xs ++ drop j xs) (add-one i)
+
+pub filed_left : {T : Type 0} (xs : List (Entry T)) (i : ℕ) → All (λ e. e.channel < 32) xs → All (λ e. e.channel < 32) (remove xs i)
+filed_left xs i filed =
+    All-append (λ e. e.channel < 32) (take i xs) (drop (suc i) xs) (All-take (λ e. e.channel < 32) i xs filed) (All-drop (λ e. e.channel < 32) (suc i) xs filed)
+
+-- the first entry of channel c, which leaves
+module _ {T : Type 0} (xs : List (Entry T)) (i c : ℕ) (d : Entry T) (first : Some i ≡ position (is_of c) xs) where
+  abbrev gone : Entry T
+  gone = get_or xs i d
+
+  abbrev rest : List (Entry T)
+  rest = drop (suc i) xs
+
+  pub first_within : i < length xs
+  first_within = (position-Some (is_of c) xs i d (sym first)).0
+
+  of_it : gone.channel ≡ c
+  of_it = eqb-true gone.channel c (position-Some (is_of c) xs i d (sym first)).1
+
+  whole : xs ≡ take i xs ++ (gone ∷ rest)
+  whole = sym (take-append-drop i xs) ∙ ap (λ z. take i xs ++ z) (drop_more xs i d first_within ∙ ap (λ j. gone ∷ drop j xs) (add-one i))
+
+  pub left : c < 32 → listed xs c ≡ gone.message ∷ listed (remove xs i) c
+  left low =
+      low_at c (chosen c xs) [] low
+      ∙ ap (chosen c) whole
+      ∙ chosen-append c (take i xs) (gone ∷ rest)
+      ∙ ap (λ z. z ++ chosen c (gone ∷ rest)) (none_before c xs i (sym first))
+      ∙ chosen-one c gone rest of_it
+      ∙ ap (λ z. gone.message ∷ (z ++ chosen c rest)) (sym (none_before c xs i (sym first)))
+      ∙ ap (λ z. gone.message ∷ z) (sym (low_at c (chosen c (remove xs i)) [] low ∙ chosen-append c (take i xs) rest))
+
+  pub left_others : (k : ℕ) → k ≢ c → listed (remove xs i) k ≡ listed xs k
+  left_others k ne =
+      ap (λ z. cond (ltb k 32) z [])
+      (chosen-append k (take i xs) rest
+      ∙ ap (λ z. chosen k (take i xs) ++ z) (sym (chosen-other k gone rest (λ e. ne (sym e ∙ of_it))))
+      ∙ sym (ap (chosen k) whole ∙ chosen-append k (take i xs) (gone ∷ rest)))

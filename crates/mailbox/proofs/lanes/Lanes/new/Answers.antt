@@ -1,26 +1,25 @@
-use Rattle.std.proofs.Common.{◌-◌, ◌/◌, length, refl, ap, ◌∙◌, arith}
+use Rattle.std.proofs.Common.{◌≤◌, ◌-◌, ◌/◌, length, replicate, refl, ap, ◌∙◌, arith}
+use Rattle.std.proofs.lemmas.List.{length-replicate}
+use Rattle.std.proofs.lemmas.List.Elements.{All-same, All-replicate}
+use Rattle.mailbox.specs.Ring.{no_messages, Within, waits}
+use Rattle.mailbox.specs.LaneLists.{ring_of}
 use Rattle.mailbox.proofs.Rooms.{low_at}
-use Rattle.mailbox.proofs.Rings.{all_zero, waits-none}
-use Rattle.mailbox.specs.Ring.{waits}
+use Rattle.mailbox.proofs.Rings.{waits_none}
 use Rattle.mailbox.proofs.lanes.Lanes.new.Goals as goal
 
 pub invariant_of-result : goal.invariant_of-result
 invariant_of-result g c = record {
   cut = refl;
-  starts = λ k h. let z = all_zero c.zeros.result c.zeros.ensures k in omega (arith, z);
-  fills = λ k h. let z = all_zero c.zeros-2.result c.zeros-2.ensures k in omega (arith, z);
+  each = ap length c.empty.ensures;
+  inside = All-same (Within (length c.args.memory.now / 32)) _ _ c.empty.ensures (All-replicate (Within (length c.args.memory.now / 32)) 32 no_messages (omega arith, omega arith));
 }
 
-pub returns : goal.returns
-returns g c =
+pub returns-clause-lists : goal.returns-clause-lists
+returns-clause-lists g c k = waits_none c.args.memory.now (length c.args.memory.now / 32) c.empty.result k c.empty.ensures
+
+pub returns-clause-rooms : goal.returns-clause-rooms
+returns-clause-rooms g c k h =
     let xs = c.args.memory.now in
     let n = length xs / 32 in
-    let heads = c.zeros.result in
-    let counts = c.zeros-2.result in
-    record {
-      lists = λ k. waits-none xs n heads counts k (all_zero counts c.zeros-2.ensures k);
-      rooms = λ k h.
-          let z = ap length (waits-none xs n heads counts k (all_zero counts c.zeros-2.ensures k)) in
-          low_at k (n - length (waits xs n heads counts k)) 0 h ∙ omega (arith, z);
-      memory = refl;
-    }
+    let none = ap length (waits_none xs n c.empty.result k c.empty.ensures) in
+    low_at k (n - length (waits xs n (ring_of c.empty.result k) k)) 0 h ∙ omega (arith, none)

@@ -1,0 +1,36 @@
+// Rings.
+ghost use Rattle.std.specs.Prelude.{◌≡◌, ◌+◌, ◌-◌, ◌*◌, ◌^◌, ◌<◌, ◌≤◌, replicate};
+ghost use Rattle.mailbox.specs.Ring.{around, no_messages};
+
+use crate::channel::CHANNELS;
+
+// How the messages of a channel stand in its lane: the place of the first, and how many wait from there on. Past its
+// end a lane goes on at its start.
+#[derive(Clone, Copy)]
+pub(crate) struct Ring {
+    pub(crate) head: usize,
+    pub(crate) count: usize,
+}
+
+impl Ring {
+    // A ring for each channel, with no messages.
+    pub(crate) fn empty() -> [Ring; CHANNELS]
+        ensures { result ≡ replicate 32 no_messages }
+    {
+        [Ring { head: 0, count: 0 }; CHANNELS]
+    }
+
+    // The place so many steps after the head, in a lane of this size.
+    pub(crate) fn place_after(self, size: usize, steps: usize) -> usize
+        requires { (self.head ≤ size) × (steps < size) }
+        ensures inside { result < size }
+        ensures place { result ≡ around size self.head steps }
+    {
+        let left = size - self.head;
+        if steps < left {
+            self.head + steps
+        } else {
+            steps - left
+        }
+    }
+}
