@@ -1,8 +1,8 @@
 -- Laws of the messages of one channel. Assumes nothing.
-use Rattle.std.proofs.Common.{◌≡◌, ℕ, suc, ◌+◌, ◌-◌, ◌<◌, ◌≤◌, Bool, true, false, cond, eqb, ltb, ◌≢◌, List, [], ◌∷◌, ◌++◌, length, get_or, take, drop, set, map, Some, None, sym, refl, ap, ◌∙◌, subst, ⊎_elim, add-one, arith, rules}
-use Rattle.std.proofs.lemmas.List.{append-nil, take-append-drop, take-append-le, take_all, take_more_set, drop_more, map-append, length-map, length-append, length-take, length-drop, length-set, length-take-le, get_or-take}
-use Rattle.std.proofs.lemmas.List.Edits.{take-paste, length-paste}
-use Rattle.std.proofs.lemmas.List.Elements.{All-head, All-tail, All-push, All-same, All-append, All-take, All-drop, filter-append}
+use Rattle.std.proofs.Common.{◌≡◌, ℕ, suc, ◌+◌, ◌-◌, ◌<◌, ◌≤◌, Bool, false, cond, eqb, ltb, ◌≢◌, List, [], ◌∷◌, ◌++◌, length, get_or, take, drop, set, map, Some, None, sym, refl, ap, ◌∙◌, ⊎_elim, add-one, arith, rules}
+use Rattle.std.proofs.lemmas.List.{append-nil, take-append-drop, take-append-le, take_all, take_more_set, drop_more, map-append, length-map, length-take, length-drop, length-set, length-take-le, get_or-take}
+use Rattle.std.proofs.lemmas.List.Edits.{take-paste, length-paste, length-remove}
+use Rattle.std.proofs.lemmas.List.Elements.{All-head, All-tail, All-append, All-take, All-drop, filter-append}
 use Rattle.std.proofs.lemmas.List.Quantifiers.{position-Some}
 use Rattle.std.proofs.lemmas.List.Sums.{length-filter, fails_before_first}
 use Rattle.std.proofs.lemmas.Bool.{lt-ltb, eq-eqb, ne_eqb, eqb-true, cases_lt}
@@ -10,10 +10,13 @@ use lib.Seq.{paste}
 use Rattle.std.specs.List.{All, remove, copy_within, filter, count_by, position, position_or_len}
 use Rattle.model.specs.Program.{sum}
 use Rattle.model.proofs.Sums.{sum_same, sum_change, sum_zero}
-use Rattle.mailbox.proofs.Rooms.{low_at, free_le}
+use Rattle.mailbox.proofs.Rooms.{low_at, free_le, free_more}
 use Rattle.mailbox.specs.Contract.{together}
 use Rattle.mailbox.specs.Entries.{chosen, listed}
+use Rattle.mailbox.specs.PoolLists.{pool_waiting, pool_room, pool_kind}
 use Rattle.mailbox.specs.declared.entry.Entry.{Entry}
+use Rattle.mailbox.specs.declared.pool.Pool.{Pool}
+use Rattle.model.specs.Mailbox.{Put, Take}
 
 none_pass : {X : Type 0} (p : X → Bool) (xs : List X) → All (λ x. p x ≡ false) xs → filter p xs ≡ []
 none_pass p [] h = refl
@@ -25,9 +28,6 @@ module _ {T : Type 0} where
 
   abbrev text : Entry T → T
   text e = e.message
-
-  pub chosen-count : (c : ℕ) (es : List (Entry T)) → length (chosen c es) ≡ count_by (is_of c) es
-  chosen-count c es = length-map (filter (is_of c) es) text ∙ length-filter (is_of c) es
 
   chosen-append : (c : ℕ) (xs ys : List (Entry T)) → chosen c (xs ++ ys) ≡ chosen c xs ++ chosen c ys
   chosen-append c xs ys = ap (map text) (filter-append (is_of c) xs ys) ∙ map-append text (filter (is_of c) xs) (filter (is_of c) ys)
@@ -73,48 +73,26 @@ module _ {T : Type 0} where
       let o = sum_one e.channel n e es refl (All-head (λ e. e.channel < n) e es h) in
       omega (arith, r, o)
 
-  pub all-counted : (es : List (Entry T)) → All (λ e. e.channel < 32) es → together (listed es) ≡ length es
+  all-counted : (es : List (Entry T)) → All (λ e. e.channel < 32) es → together (listed es) ≡ length es
   unfolding together
   all-counted es filed =
       sum_same (λ d. length (chosen d es)) (λ d. length (listed es d)) 32 (λ u h. ap length (low_at u (chosen u es) [] h)) ∙ all-chosen 32 es filed
 
-  -- a pool of which the first n entries are in use
-  pub counted : (mem : List (Entry T)) (n : ℕ) → n ≤ length mem → All (λ e. e.channel < 32) (take n mem) → together (listed (take n mem)) ≡ n
-  counted mem n le filed = all-counted (take n mem) filed ∙ length-take-le n mem le
+module _ {T : Type 0} where
+  abbrev pub told : ℕ → T → Entry T
+  told c m = record { channel = c; message = m }
 
-  pub room-is : (mem : List (Entry T)) (n c : ℕ) → c < 32 → n ≤ length mem → All (λ e. e.channel < 32) (take n mem) → cond (ltb c 32) (length mem - together (listed (take n mem))) 0 ≡ length mem - n
-  room-is mem n c low le filed = low_at c (length mem - together (listed (take n mem))) 0 low ∙ ap (λ w. length mem - w) (counted mem n le filed)
+  joined : (xs : List (Entry T)) (c : ℕ) (m : T) → c < 32 → listed (xs ++ told c m ∷ []) c ≡ listed xs c ++ m ∷ []
+  joined xs c m low =
+      low_at c (chosen c (xs ++ told c m ∷ [])) [] low
+      ∙ chosen-append c xs (told c m ∷ [])
+      ∙ ap (λ z. chosen c xs ++ z) (chosen-one c (told c m) [] refl)
+      ∙ ap (λ z. z ++ m ∷ []) (sym (low_at c (chosen c xs) [] low))
 
--- one message more
-module _ {T : Type 0} (mem : List (Entry T)) (n c : ℕ) (m : T) (lt : n < length mem) where
-  abbrev pub told : Entry T
-  told = record { channel = c; message = m }
-
-  pub entries_more : take (n + 1) (set mem n told) ≡ take n mem ++ told ∷ []
-  entries_more = take_more_set mem n told lt
-
-  pub joined : c < 32 → listed (take (n + 1) (set mem n told)) c ≡ listed (take n mem) c ++ m ∷ []
-  joined low =
-      low_at c (chosen c (take (n + 1) (set mem n told))) [] low
-      ∙ ap (chosen c) entries_more
-      ∙ chosen-append c (take n mem) (told ∷ [])
-      ∙ ap (λ z. chosen c (take n mem) ++ z) (chosen-one c told [] refl)
-      ∙ ap (λ z. z ++ m ∷ []) (sym (low_at c (chosen c (take n mem)) [] low))
-
-  pub joined_others : (k : ℕ) → k ≢ c → listed (take (n + 1) (set mem n told)) k ≡ listed (take n mem) k
-  joined_others k ne =
+  joined_others : (xs : List (Entry T)) (c : ℕ) (m : T) (k : ℕ) → k ≢ c → listed (xs ++ told c m ∷ []) k ≡ listed xs k
+  joined_others xs c m k ne =
       ap (λ z. cond (ltb k 32) z [])
-      (ap (chosen k) entries_more ∙ chosen-append k (take n mem) (told ∷ []) ∙ ap (λ z. chosen k (take n mem) ++ z) (chosen-other k told [] (λ e. ne (sym e))) ∙ append-nil (chosen k (take n mem)))
-
-  pub filed_more : c < 32 → All (λ e. e.channel < 32) (take n mem) → All (λ e. e.channel < 32) (take (n + 1) (set mem n told))
-  filed_more low filed = All-same (λ e. e.channel < 32) _ _ entries_more (All-push (λ e. e.channel < 32) (take n mem) told filed low)
-
-  pub roomy_joined : c < 32 → All (λ e. e.channel < 32) (take n mem) → (d : ℕ) → cond (ltb d 32) (length mem - together (listed (take n mem))) 0 ≤ suc (cond (ltb d 32) (length (set mem n told) - together (listed (take (n + 1) (set mem n told)))) 0)
-  roomy_joined low filed d =
-      let l = length-set mem n told in
-      let before = counted mem n (omega arith) filed in
-      let after = counted (set mem n told) (n + 1) (omega (arith, l)) (filed_more low filed) in
-      free_le (length mem) (length (set mem n told)) (together (listed (take n mem))) (together (listed (take (n + 1) (set mem n told)))) l (omega (arith, before, after)) d
+      (chosen-append k xs (told c m ∷ []) ∙ ap (λ z. chosen k xs ++ z) (chosen-other k (told c m) [] (λ e. ne (sym e))) ∙ append-nil (chosen k xs))
 
 -- A pool of which the first n entries are in use: those after a place move up by one, over the one that stood there.
 pub gap_closed : {X : Type 0} (mem moved : List X) (n i : ℕ) → n ≤ length mem → i < n → moved ≡ copy_within (take n mem) (i + 1) (length (take n mem)) i → take (n - 1) (moved ++ drop n mem) ≡ remove (take n mem) i
@@ -145,7 +123,7 @@ module _ {T : Type 0} (xs : List (Entry T)) (i c : ℕ) (d : Entry T) (first : S
   abbrev rest : List (Entry T)
   rest = drop (suc i) xs
 
-  pub first_within : i < length xs
+  first_within : i < length xs
   first_within = (position-Some (is_of c) xs i d (sym first)).0
 
   of_it : gone.channel ≡ c
@@ -154,7 +132,7 @@ module _ {T : Type 0} (xs : List (Entry T)) (i c : ℕ) (d : Entry T) (first : S
   whole : xs ≡ take i xs ++ (gone ∷ rest)
   whole = sym (take-append-drop i xs) ∙ ap (λ z. take i xs ++ z) (drop_more xs i d first_within ∙ ap (λ j. gone ∷ drop j xs) (add-one i))
 
-  pub left : c < 32 → listed xs c ≡ gone.message ∷ listed (remove xs i) c
+  left : c < 32 → listed xs c ≡ gone.message ∷ listed (remove xs i) c
   left low =
       low_at c (chosen c xs) [] low
       ∙ ap (chosen c) whole
@@ -164,9 +142,60 @@ module _ {T : Type 0} (xs : List (Entry T)) (i c : ℕ) (d : Entry T) (first : S
       ∙ ap (λ z. gone.message ∷ (z ++ chosen c rest)) (sym (none_before c xs i (sym first)))
       ∙ ap (λ z. gone.message ∷ z) (sym (low_at c (chosen c (remove xs i)) [] low ∙ chosen-append c (take i xs) rest))
 
-  pub left_others : (k : ℕ) → k ≢ c → listed (remove xs i) k ≡ listed xs k
+  left_others : (k : ℕ) → k ≢ c → listed (remove xs i) k ≡ listed xs k
   left_others k ne =
       ap (λ z. cond (ltb k 32) z [])
       (chosen-append k (take i xs) rest
       ∙ ap (λ z. chosen k (take i xs) ++ z) (sym (chosen-other k gone rest (λ e. ne (sym e ∙ of_it))))
       ∙ sym (ap (chosen k) whole ∙ chosen-append k (take i xs) (gone ∷ rest)))
+
+module _ {T : Type 0} (s : Pool T) where
+  abbrev entries : List (Entry T)
+  entries = take s.count s.memory.now
+
+  counted : together (listed entries) ≡ s.count
+  counted = all-counted entries s.filed ∙ length-take-le s.count s.memory.now s.fits
+
+  pub place_within : (c i : ℕ) (d : Entry T) → Some i ≡ position (is_of c) entries → i < s.count
+  place_within c i d first =
+      let l = length-take-le s.count s.memory.now s.fits in
+      let inside = first_within entries i c d first in
+      omega (arith, l, inside)
+
+  pub count_is : (c : ℕ) → c < 32 → length (pool_waiting s c) ≡ count_by (λ e. eqb e.channel c) (take s.count s.memory.now)
+  count_is c low = ap length (low_at c (chosen c entries) [] low) ∙ length-map (filter (is_of c) entries) text ∙ length-filter (is_of c) entries
+
+  pub room_is : (c : ℕ) → c < 32 → pool_room s c ≡ length s.memory.now - s.count
+  room_is c low = low_at c (length s.memory.now - together (listed entries)) 0 low ∙ ap (λ w. length s.memory.now - w) counted
+
+  pub room_at_first : (c : ℕ) → c < 32 → s.count ≡ 0 → pool_room s c ≡ length s.memory.now
+  room_at_first c low none = room_is c low ∙ omega (arith, none)
+
+-- what a pool is once a message of channel c has joined or left
+module _ {T : Type 0} (s t : Pool T) (c : ℕ) (low : c < 32) where
+  pub put_made : (m : T) → s.count < length s.memory.now → t.memory.now ≡ set s.memory.now s.count (told c m) → t.count ≡ s.count + 1 → Put pool_kind s c m t
+  put_made m free memory count =
+      let more : entries t ≡ entries s ++ told c m ∷ [] = ap (λ n. take n t.memory.now) count ∙ ap (take (s.count + 1)) memory ∙ take_more_set s.memory.now s.count (told c m) free in
+      let before = counted s in
+      let after = counted t in
+      record {
+        joined = ap (λ z. listed z c) more ∙ joined (entries s) c m low;
+        others = λ k ne. ap (λ z. listed z k) more ∙ joined_others (entries s) c m k ne;
+        roomy = free_le (length s.memory.now) (length t.memory.now) _ _ (ap length memory ∙ length-set s.memory.now s.count (told c m)) (omega (arith, before, after, count));
+      }
+
+  pub take_made : (i : ℕ) (d : Entry T) → Some i ≡ position (is_of c) (entries s) → entries t ≡ remove (entries s) i → length t.memory.now ≡ length s.memory.now → Take pool_kind s c (get_or s.memory.now i d).message t
+  take_made i d first closed same =
+      let before = counted s in
+      let after = counted t in
+      let inside = place_within s c i d first in
+      let l = length-take-le s.count s.memory.now s.fits in
+      let l' = length-take-le t.count t.memory.now t.fits in
+      let fewer = length-remove (entries s) i (omega (arith, l, inside)) in
+      let e = ap length closed in
+      let m : (get_or (entries s) i d).message ≡ (get_or s.memory.now i d).message = ap (λ e. e.message) (get_or-take s.count s.memory.now i d inside) in
+      record {
+        removed = left (entries s) i c d first low ∙ ap (λ z. z ∷ listed (remove (entries s) i) c) m ∙ ap (λ z. (get_or s.memory.now i d).message ∷ listed z c) (sym closed);
+        others = λ k ne. ap (λ z. listed z k) closed ∙ left_others (entries s) i c d first k ne;
+        roomy = free_more (length s.memory.now) (length t.memory.now) _ _ same (omega (arith, before, after, l, l', fewer, e));
+      }

@@ -2,13 +2,14 @@
 use Rattle.std.proofs.Common.{◌≡◌, ℕ, zero, suc, ◌+◌, ◌-◌, ◌*◌, ◌/◌, ◌<◌, ◌≤◌, cond, ltb, ◌≢◌, ◌⊎◌, List, [], ◌∷◌, ◌++◌, length, get_or, take, drop, set, replicate, sym, refl, ap, ◌∙◌, subst, inl, inr, ⊎_elim, mul-le-mul_right, add-mul, one-mul, add-one, arith}
 use native.Mathlib.Nat.{mul-div-le}
 use lib.Seq.{take-set-lt}
-use Rattle.std.proofs.lemmas.List.{length-take, length-drop, length-append, take-set-le, drop-set-lt, drop-set-add, set-append_left, set-append_right, take_more_set, take_more, drop_more, take-append-le, take_all, drop_all, append-nil, append_assoc, get_or-set_same, get_or-set_other, get_or-drop, get_or-take}
-use Rattle.std.proofs.lemmas.Bool.{lt-ltb, le-ltb, cases_lt, cases_eq, cases_order}
-use Rattle.mailbox.proofs.Rooms.{low_at, cond_same}
+use Rattle.std.proofs.lemmas.List.{length-take, length-drop, length-set, length-append, take-set-le, drop-set-lt, drop-set-add, set-append_left, set-append_right, take_more_set, take_more, drop_more, take-append-le, take_all, drop_all, append-nil, append_assoc, get_or-set_same, get_or-set_other, get_or-drop, get_or-take}
+use Rattle.std.proofs.lemmas.Bool.{lt-ltb, le-ltb, cases_lt, cases_order}
+use Rattle.mailbox.proofs.Rooms.{low_at, cond_same, roomy-put, roomy-take}
 use Rattle.mailbox.specs.Ring.{no_messages, Within, lane, turned, waits, around}
-use Rattle.mailbox.specs.LaneLists.{ring_of}
+use Rattle.mailbox.specs.LaneLists.{ring_of, lanes_waiting, lanes_room, lanes_kind}
 use Rattle.mailbox.specs.declared.ring.Ring.{Ring}
-use Rattle.std.specs.List.{All}
+use Rattle.mailbox.specs.declared.lanes.Lanes.{Lanes}
+use Rattle.model.specs.Mailbox.{Put, Take}
 
 -- lane c ends inside the memory
 lane-within : (c size n : ℕ) → c < 32 → size ≡ n / 32 → c * size + size ≤ n
@@ -111,75 +112,90 @@ module _ {M : Type 0} where
       ap (take n) (z ∙ ap (λ i. turned i xs) (sym i)) ∙ ap (λ i. take i (turned at xs)) e ∙ turned-first xs at (n - 1) m (omega (arith, i, l)) (omega (arith, l)) read)
       (around_way size h 0 hs (omega arith))
 
--- channel c of a memory in lanes of this size, whose ring is r
-module _ {M : Type 0} (mem : List M) (size c : ℕ) (r : Ring) (low : c < 32) (cut : size ≡ length mem / 32) (inside : Within size r) where
-  long : length (lane mem size c) ≡ size
-  long = length-lane mem size c (lane-within c size (length mem) low cut)
-
-  pub waits-length : length (waits mem size r c) ≡ r.count
-  waits-length =
-      let t = length-turned r.head (lane mem size c) (let l = long in omega (arith, l, inside.0)) in
-      ap length (low_at c (take r.count (turned r.head (lane mem size c))) [] low) ∙ length-take r.count (turned r.head (lane mem size c)) ∙ (let l = long in omega (arith, l, t, inside.1))
-
-  -- what is left of a lane's share of the memory
-  pub room-is : cond (ltb c 32) (length mem / 32 - length (waits mem size r c)) 0 ≡ size - r.count
-  room-is =
-      let l = waits-length in
-      low_at c (length mem / 32 - length (waits mem size r c)) 0 low ∙ omega (arith, l, cut)
-
-  -- a message that joins, where the place after the last one is
-  waits-put : (m : M) (place : ℕ) → r.count < size → place < size → place ≡ around size r.head r.count → waits (set mem (c * size + place) m) size (record { head = r.head; count = r.count + 1 }) c ≡ waits mem size r c ++ m ∷ []
-  waits-put m place full within at =
-      let xs : List M = lane mem size c in
-      low_at c (take (r.count + 1) (turned r.head (lane (set mem (c * size + place) m) size c))) [] low
-      ∙ ap (λ l. take (r.count + 1) (turned r.head l)) (lane-set-same mem size c place m within)
-      ∙ ap (λ i. take (r.count + 1) (turned r.head (set xs i m))) at
-      ∙ ring_put xs size r.head r.count m long inside.0 full
-      ∙ ap (λ z. z ++ m ∷ []) (sym (low_at c (take r.count (turned r.head xs)) [] low))
-
-  -- the first message, where the head is, leaves
-  waits-take : (m : M) (place : ℕ) → 0 < r.count → place < size → place ≡ around size r.head 0 → m ≡ get_or mem (c * size + place) m → waits mem size r c ≡ m ∷ waits mem size (record { head = place + 1; count = r.count - 1 }) c
-  waits-take m place some within at read =
-      let xs : List M = lane mem size c in
-      let read' : m ≡ get_or xs place m = read ∙ sym (get_or-take size (drop (c * size) mem) place m within ∙ get_or-drop (c * size) mem place m) in
-      low_at c (take r.count (turned r.head xs)) [] low
-      ∙ ring_take xs size r.head r.count m long inside.0 some inside.1 (read' ∙ ap (λ i. get_or xs i m) at)
-      ∙ ap (λ i. m ∷ take (r.count - 1) (turned (i + 1) xs)) (sym at)
-      ∙ ap (λ z. m ∷ z) (sym (low_at c (take (r.count - 1) (turned (place + 1) xs)) [] low))
-
 -- a message that is written into another lane
 waits-other : {M : Type 0} (mem : List M) (size c k : ℕ) (r : Ring) (place : ℕ) (m : M) → place < size → k ≢ c → waits (set mem (c * size + place) m) size r k ≡ waits mem size r k
 waits-other mem size c k r place m within ne = ap (λ l. cond (ltb k 32) (take r.count (turned r.head l)) []) (lane-set-other mem size c k place m within ne)
 
--- The lists of all channels, once the ring of channel c has changed; i is where its message is in the memory.
-module _ {M : Type 0} (mem : List M) (size : ℕ) (rings : List Ring) (c : ℕ) (low : c < 32) (cut : size ≡ length mem / 32) (each : length rings ≡ 32) (inside : All (Within size) rings) (place i : ℕ) (within : place < size) (there : i ≡ c * size + place) (m : M) where
-  abbrev here : Ring
-  here = ring_of rings c
+-- the lane of channel c, and its ring
+module _ {T : Type 0} (s : Lanes T) (c : ℕ) (low : c < 32) where
+  abbrev ring : Ring
+  ring = ring_of s.rings c
 
-  fits : Within size here
-  fits = inside c _ (omega (arith, low, each))
+  abbrev its_lane : List T
+  its_lane = lane s.memory.now s.size c
 
-  pub joined : here.count < size → place ≡ around size here.head here.count → waits (set mem i m) size (ring_of (set rings c (record { head = here.head; count = here.count + 1 })) c) c ≡ waits mem size here c ++ m ∷ []
-  joined full at =
-      let r : Ring = record { head = here.head; count = here.count + 1 } in
-      ap (λ j. waits (set mem j m) size (ring_of (set rings c r) c) c) there
-      ∙ ap (λ r. waits (set mem (c * size + place) m) size r c) (get_or-set_same rings c r _ (omega (arith, low, each)))
-      ∙ waits-put mem size c here low cut fits m place full within at
+  there : c < length s.rings
+  there = let e = s.each in omega (arith, low, e)
 
-  pub joined_others : (r : Ring) (d : ℕ) → d ≢ c → waits (set mem i m) size (ring_of (set rings c r) d) d ≡ waits mem size (ring_of rings d) d
-  joined_others r d ne =
-      ap (λ j. waits (set mem j m) size (ring_of (set rings c r) d) d) there
-      ∙ ap (λ q. waits (set mem (c * size + place) m) size q d) (get_or-set_other rings c d r _ ne)
-      ∙ waits-other mem size c d (ring_of rings d) place m within ne
+  pub within_lane : Within s.size ring
+  within_lane = s.inside c no_messages there
 
-  pub left : 0 < here.count → place ≡ around size here.head 0 → m ≡ get_or mem i m → waits mem size here c ≡ m ∷ waits mem size (ring_of (set rings c (record { head = place + 1; count = here.count - 1 })) c) c
-  left some at read =
-      let r : Ring = record { head = place + 1; count = here.count - 1 } in
-      waits-take mem size c here low cut fits m place some within at (read ∙ ap (λ j. get_or mem j m) there)
-      ∙ ap (λ q. m ∷ waits mem size q c) (sym (get_or-set_same rings c r _ (omega (arith, low, each))))
+  long : length its_lane ≡ s.size
+  long = length-lane s.memory.now s.size c (lane-within c s.size (length s.memory.now) low s.cut)
 
-  pub left_others : (r : Ring) (d : ℕ) → d ≢ c → waits mem size (ring_of (set rings c r) d) d ≡ waits mem size (ring_of rings d) d
-  left_others r d ne = ap (λ q. waits mem size q d) (get_or-set_other rings c d r _ ne)
+  pub count_is : length (lanes_waiting s c) ≡ ring.count
+  count_is =
+      let l = long in
+      let w = within_lane in
+      let t = length-turned ring.head its_lane (omega (arith, l, w.0)) in
+      ap length (low_at c (take ring.count (turned ring.head its_lane)) [] low) ∙ length-take ring.count (turned ring.head its_lane) ∙ omega (arith, l, t, w.1)
+
+  pub room_is : lanes_room s c ≡ s.size - ring.count
+  room_is =
+      let l = count_is in
+      let cut = s.cut in
+      low_at c (length s.memory.now / 32 - length (lanes_waiting s c)) 0 low ∙ omega (arith, l, cut)
+
+  -- a message that joins, where the place after the last one is
+  waits-put : (m : T) (place : ℕ) → ring.count < s.size → place < s.size → place ≡ around s.size ring.head ring.count → waits (set s.memory.now (c * s.size + place) m) s.size (record { head = ring.head; count = ring.count + 1 }) c ≡ lanes_waiting s c ++ m ∷ []
+  waits-put m place full within at =
+      low_at c (take (ring.count + 1) (turned ring.head (lane (set s.memory.now (c * s.size + place) m) s.size c))) [] low
+      ∙ ap (λ l. take (ring.count + 1) (turned ring.head l)) (lane-set-same s.memory.now s.size c place m within)
+      ∙ ap (λ i. take (ring.count + 1) (turned ring.head (set its_lane i m))) at
+      ∙ ring_put its_lane s.size ring.head ring.count m long within_lane.0 full
+      ∙ ap (λ z. z ++ m ∷ []) (sym (low_at c (take ring.count (turned ring.head its_lane)) [] low))
+
+  -- the first message, where the head is, leaves
+  waits-take : (m : T) (place : ℕ) → 0 < ring.count → place < s.size → place ≡ around s.size ring.head 0 → m ≡ get_or s.memory.now (c * s.size + place) m → lanes_waiting s c ≡ m ∷ waits s.memory.now s.size (record { head = place + 1; count = ring.count - 1 }) c
+  waits-take m place some within at read =
+      let read' : m ≡ get_or its_lane place m = read ∙ sym (get_or-take s.size (drop (c * s.size) s.memory.now) place m within ∙ get_or-drop (c * s.size) s.memory.now place m) in
+      low_at c (take ring.count (turned ring.head its_lane)) [] low
+      ∙ ring_take its_lane s.size ring.head ring.count m long within_lane.0 some within_lane.1 (read' ∙ ap (λ i. get_or its_lane i m) at)
+      ∙ ap (λ i. m ∷ take (ring.count - 1) (turned (i + 1) its_lane)) (sym at)
+      ∙ ap (λ z. m ∷ z) (sym (low_at c (take (ring.count - 1) (turned (place + 1) its_lane)) [] low))
+
+  -- what the lanes are once a message has joined or left; i is where it is in the memory
+  module _ (t : Lanes T) (place i : ℕ) (m : T) (inside : place < s.size) (at : i ≡ c * s.size + place) (size : t.size ≡ s.size) where
+    pub put_made : ring.count < s.size → place ≡ around s.size ring.head ring.count → t.memory.now ≡ set s.memory.now i m → t.rings ≡ set s.rings c (record { head = ring.head; count = ring.count + 1 }) → Put lanes_kind s c m t
+    put_made full next memory rings =
+        let r : Ring = record { head = ring.head; count = ring.count + 1 } in
+        let mem : List T = set s.memory.now (c * s.size + place) m in
+        let lists : (d : ℕ) → lanes_waiting t d ≡ waits mem s.size (ring_of (set s.rings c r) d) d =
+        λ d. ap (λ z. waits z t.size (ring_of t.rings d) d) (memory ∙ ap (λ j. set s.memory.now j m) at) ∙ ap (λ n. waits mem n (ring_of t.rings d) d) size ∙ ap (λ q. waits mem s.size (ring_of q d) d) rings in
+        let joined : lanes_waiting t c ≡ lanes_waiting s c ++ m ∷ [] =
+        lists c ∙ ap (λ q. waits mem s.size q c) (get_or-set_same s.rings c r no_messages there) ∙ waits-put m place full inside next in
+        let others : (d : ℕ) → d ≢ c → lanes_waiting t d ≡ lanes_waiting s d =
+        λ d ne. lists d ∙ ap (λ q. waits mem s.size q d) (get_or-set_other s.rings c d r no_messages ne) ∙ waits-other s.memory.now s.size c d (ring_of s.rings d) place m inside ne in
+        record {
+          joined = joined;
+          others = others;
+          roomy = roomy-put (length s.memory.now / 32) (length t.memory.now / 32) (lanes_waiting s) (lanes_waiting t) c m (ap (λ z. length z / 32) memory ∙ ap (λ n. n / 32) (length-set s.memory.now i m)) others joined;
+        }
+
+    pub take_made : 0 < ring.count → place ≡ around s.size ring.head 0 → m ≡ get_or s.memory.now i m → t.memory.now ≡ s.memory.now → t.rings ≡ set s.rings c (record { head = place + 1; count = ring.count - 1 }) → Take lanes_kind s c m t
+    take_made some first read memory rings =
+        let r : Ring = record { head = place + 1; count = ring.count - 1 } in
+        let lists : (d : ℕ) → lanes_waiting t d ≡ waits s.memory.now s.size (ring_of (set s.rings c r) d) d =
+        λ d. ap (λ z. waits z t.size (ring_of t.rings d) d) memory ∙ ap (λ n. waits s.memory.now n (ring_of t.rings d) d) size ∙ ap (λ q. waits s.memory.now s.size (ring_of q d) d) rings in
+        let removed : lanes_waiting s c ≡ m ∷ lanes_waiting t c =
+        waits-take m place some inside first (read ∙ ap (λ j. get_or s.memory.now j m) at) ∙ ap (λ z. m ∷ z) (sym (lists c ∙ ap (λ q. waits s.memory.now s.size q c) (get_or-set_same s.rings c r no_messages there))) in
+        let others : (d : ℕ) → d ≢ c → lanes_waiting t d ≡ lanes_waiting s d =
+        λ d ne. lists d ∙ ap (λ q. waits s.memory.now s.size q d) (get_or-set_other s.rings c d r no_messages ne) in
+        record {
+          removed = removed;
+          others = others;
+          roomy = roomy-take (length s.memory.now / 32) (length t.memory.now / 32) (lanes_waiting s) (lanes_waiting t) c m (ap (λ z. length z / 32) memory) others removed;
+        }
 
 none_of : (n k : ℕ) → get_or (replicate n no_messages) k no_messages ≡ no_messages
 none_of zero k = refl

@@ -43,17 +43,19 @@ impl<'a, T: Copy> Lists for Lanes<'a, T> {
 
     ghost lent = { λ b. length b.memory.now };
 
+    #[tactic(auto, using(crate::proofs::Rings::count_is))]
     fn waiting(&self, channel: Channel) -> usize {
         self.rings[channel.number].count
     }
 
+    #[tactic(auto, using(crate::proofs::Rings::room_is))]
     fn free(&self, channel: Channel) -> usize {
         self.size - self.rings[channel.number].count
     }
 
     fn join(&mut self, channel: Channel, message: T) {
         let ring = self.rings[channel.number];
-        let place = ring.place_after(self.size, ring.count);
+        let place = ring.next_place(self.size);
         let i = self.index(channel, place);
         self.memory[i] = message;
         self.rings[channel.number].count += 1;
@@ -64,7 +66,7 @@ impl<'a, T: Copy> Lists for Lanes<'a, T> {
         if ring.count == 0 {
             return None;
         }
-        let place = ring.place_after(self.size, 0);
+        let place = ring.first_place(self.size);
         let i = self.index(channel, place);
         let message = self.memory[i];
         self.rings[channel.number] = Ring {

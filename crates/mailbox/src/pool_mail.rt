@@ -1,9 +1,8 @@
 // Messages in a pool.
-ghost use Rattle.std.specs.Prelude.{◌≡◌, ℕ, ◌<◌, ◌≤◌, [], length, take, slice_index_or, ◌==◌, IfSome};
-ghost use Rattle.std.specs.List.{count_by, position, remove};
-ghost use Rattle.model.specs.Mailbox.{Put};
+ghost use Rattle.std.specs.Prelude.{◌≡◌, ℕ, ◌<◌, ◌≤◌, [], length, take, ◌==◌, Some};
+ghost use Rattle.std.specs.List.{count_by, position};
+ghost use Rattle.model.specs.Mailbox.{Put, Take};
 ghost use Rattle.mailbox.specs.Contract.{TakeAnswer};
-ghost use Rattle.mailbox.specs.declared.entry.Entry.{Entry};
 ghost use Rattle.mailbox.specs.PoolLists.{pool_waiting, pool_room, pool_kind, pool_bounded};
 
 use crate::channel::Channel;
@@ -13,9 +12,18 @@ use crate::pool::Pool;
 
 impl<'a, T: Copy> Pool<'a, T> {
     // A pool with every list empty, whatever the memory holds.
+    #[tactic(auto, using(crate::proofs::Arrivals::room_at_first))]
     pub fn new(memory: &'a mut [Entry<T>]) -> Pool<'a, T>
         ensures lists { (c : ℕ) → pool_waiting result c ≡ [] }
         ensures rooms { (c : ℕ) → c < 32 → pool_room result c ≡ length memory.old }
+        ensures memory { length result.memory.now ≡ length memory.old }
+    {
+        Pool::unused(memory)
+    }
+
+    // A pool of which no entry is in use.
+    fn unused(memory: &'a mut [Entry<T>]) -> Pool<'a, T>
+        ensures count { result.count ≡ 0 }
         ensures memory { length result.memory.now ≡ length memory.old }
     {
         Pool { memory, count: 0 }
@@ -31,18 +39,16 @@ impl<'a, T: Copy> Pool<'a, T> {
 
     // The place of the first entry that is of a channel.
     fn first_of(&self, channel: usize) -> Option<usize>
-        ensures inside { IfSome result (λ place. place < self.now.count) }
-        ensures first { result ≡ position (λ e. e.channel == channel) (take self.now.count self.now.memory.now) }
+        ensures { result ≡ position (λ e. e.channel == channel) (take self.now.count self.now.memory.now) }
     {
         let entries = &self.memory[..self.count];
         entries.iter().position(|e| e.channel == channel)
     }
 
-    // Removes the entry at a place, and answers its message; the entries after it move up by one.
-    fn remove(&mut self, place: usize) -> T
-        requires { place < self.old.count }
-        ensures entries { take self.new.count self.new.memory.now ≡ remove (take self.old.count self.old.memory.now) place }
-        ensures message { (e : Entry T) → result ≡ (slice_index_or self.old.memory.now place e).message }
+    // Removes the entry at a place, the first of its channel; the entries after it move up by one.
+    fn remove(&mut self, channel: Channel, place: usize) -> T
+        requires { Some place ≡ position (λ e. e.channel == channel.number) (take self.old.count self.old.memory.now) }
+        ensures taken { Take pool_kind self.old channel.number result self.new }
         ensures memory { length self.new.memory.now ≡ length self.old.memory.now }
     {
         let message = self.memory[place].message;
@@ -61,10 +67,12 @@ impl<'a, T: Copy> Lists for Pool<'a, T> {
 
     ghost lent = { λ b. length b.memory.now };
 
+    #[tactic(auto, using(crate::proofs::Arrivals::count_is))]
     fn waiting(&self, channel: Channel) -> usize {
         self.count_of(channel.number)
     }
 
+    #[tactic(auto, using(crate::proofs::Arrivals::room_is))]
     fn free(&self, _channel: Channel) -> usize {
         self.memory.len() - self.count
     }
@@ -79,6 +87,6 @@ impl<'a, T: Copy> Lists for Pool<'a, T> {
 
     fn leave(&mut self, channel: Channel) -> Option<T> {
         let place = self.first_of(channel.number)?;
-        Some(self.remove(place))
+        Some(self.remove(channel, place))
     }
 }

@@ -20,8 +20,26 @@ impl Ring {
         [Ring { head: 0, count: 0 }; CHANNELS]
     }
 
-    // The place so many steps after the head, in a lane of this size.
-    pub(crate) fn place_after(self, size: usize, steps: usize) -> usize
+    // The place of the first message, in a lane of this size.
+    pub(crate) fn first_place(self, size: usize) -> usize
+        requires { (self.head ≤ size) × (0 < size) }
+        ensures inside { result < size }
+        ensures place { result ≡ around size self.head 0 }
+    {
+        self.place_after(size, 0)
+    }
+
+    // The place of the next message.
+    pub(crate) fn next_place(self, size: usize) -> usize
+        requires { (self.head ≤ size) × (self.count < size) }
+        ensures inside { result < size }
+        ensures place { result ≡ around size self.head self.count }
+    {
+        self.place_after(size, self.count)
+    }
+
+    // The place so many steps after the head.
+    fn place_after(self, size: usize, steps: usize) -> usize
         requires { (self.head ≤ size) × (steps < size) }
         ensures inside { result < size }
         ensures place { result ≡ around size self.head steps }
