@@ -53,6 +53,7 @@ impl<'a, T: Copy> Lists for Lanes<'a, T> {
         self.size - self.rings[channel.number].count
     }
 
+    #[tactic(auto, using(crate::proofs::Rings::room_is))]
     fn join(&mut self, channel: Channel, message: T) {
         let ring = self.rings[channel.number];
         let place = ring.next_place(self.size);

@@ -77,6 +77,7 @@ impl<'a, T: Copy> Lists for Pool<'a, T> {
         self.memory.len() - self.count
     }
 
+    #[tactic(auto, using(crate::proofs::Arrivals::room_is))]
     fn join(&mut self, channel: Channel, message: T) {
         self.memory[self.count] = Entry {
             channel: channel.number,

@@ -1,6 +1,6 @@
 // Rings.
 ghost use Rattle.std.specs.Prelude.{◌≡◌, ◌+◌, ◌-◌, ◌*◌, ◌^◌, ◌<◌, ◌≤◌, replicate};
-ghost use Rattle.mailbox.specs.Ring.{around, no_messages};
+ghost use Rattle.mailbox.specs.Ring.{around, no_messages, Within};
 
 use crate::channel::CHANNELS;
 
@@ -22,7 +22,7 @@ impl Ring {
 
     // The place of the first message, in a lane of this size.
     pub(crate) fn first_place(self, size: usize) -> usize
-        requires { (self.head ≤ size) × (0 < size) }
+        requires { Within size self × (0 < size) }
         ensures inside { result < size }
         ensures place { result ≡ around size self.head 0 }
     {
@@ -31,7 +31,7 @@ impl Ring {
 
     // The place of the next message.
     pub(crate) fn next_place(self, size: usize) -> usize
-        requires { (self.head ≤ size) × (self.count < size) }
+        requires { Within size self × (self.count < size) }
         ensures inside { result < size }
         ensures place { result ≡ around size self.head self.count }
     {
@@ -40,7 +40,7 @@ impl Ring {
 
     // The place so many steps after the head.
     fn place_after(self, size: usize, steps: usize) -> usize
-        requires { (self.head ≤ size) × (steps < size) }
+        requires { Within size self × (steps < size) }
         ensures inside { result < size }
         ensures place { result ≡ around size self.head steps }
     {

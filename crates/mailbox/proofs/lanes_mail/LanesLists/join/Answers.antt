@@ -6,13 +6,6 @@ use Rattle.mailbox.specs.Ring.{Within}
 use Rattle.mailbox.proofs.Rings.{within_lane, room_is, put_made}
 use Rattle.mailbox.proofs.lanes_mail.LanesLists.join.Goals as goal
 
-pub next_place-place-requires : goal.next_place-place-requires
-next_place-place-requires g c =
-    let s = c.args.self.now in
-    let ch = c.args.channel in
-    let room = room_is s ch.number ch.below in
-    ((within_lane s ch.number ch.below).0, omega (arith, room, c.requires))
-
 pub invariant_of-self : goal.invariant_of-self
 invariant_of-self g c =
     let s = c.args.self.now in

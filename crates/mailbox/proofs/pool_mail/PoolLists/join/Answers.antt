@@ -4,11 +4,6 @@ use Rattle.std.proofs.lemmas.List.Elements.{All-same, All-push}
 use Rattle.mailbox.proofs.Arrivals.{told, room_is, put_made}
 use Rattle.mailbox.proofs.pool_mail.PoolLists.join.Goals as goal
 
-pub bounds-self-self : goal.bounds-self-self
-bounds-self-self g c =
-    let room = room_is c.args.self.now c.args.channel.number c.args.channel.below in
-    omega (arith, room, c.requires)
-
 pub invariant_of-self : goal.invariant_of-self
 invariant_of-self g c =
     let s = c.args.self.now in
