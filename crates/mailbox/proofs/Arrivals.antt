@@ -5,12 +5,12 @@ use Rattle.std.proofs.lemmas.List.Edits.{take-paste, length-paste, length-remove
 use Rattle.std.proofs.lemmas.List.Elements.{All-head, All-tail, All-append, All-take, All-drop, filter-append}
 use Rattle.std.proofs.lemmas.List.Quantifiers.{position-Some}
 use Rattle.std.proofs.lemmas.List.Sums.{length-filter, fails_before_first}
-use Rattle.std.proofs.lemmas.Bool.{lt-ltb, eq-eqb, ne_eqb, eqb-true, cases_lt}
+use Rattle.std.proofs.lemmas.Bool.{cond_below, lt-ltb, eq-eqb, ne_eqb, eqb-true, cases_lt}
 use lib.Seq.{paste}
 use Rattle.std.specs.List.{All, remove, copy_within, filter, count_by, position, position_or_len}
 use Rattle.model.specs.Program.{sum}
 use Rattle.model.proofs.Sums.{sum_same, sum_change, sum_zero}
-use Rattle.mailbox.proofs.Rooms.{low_at, free_le, free_more}
+use Rattle.mailbox.proofs.Rooms.{free_le, free_more}
 use Rattle.mailbox.specs.Contract.{together}
 use Rattle.mailbox.specs.Entries.{chosen, listed}
 use Rattle.mailbox.specs.PoolLists.{pool_waiting, pool_room, pool_kind}
@@ -76,7 +76,7 @@ module _ {T : Type 0} where
   all-counted : (es : List (Entry T)) → All (λ e. e.channel < 32) es → together (listed es) ≡ length es
   unfolding together
   all-counted es filed =
-      sum_same (λ d. length (chosen d es)) (λ d. length (listed es d)) 32 (λ u h. ap length (low_at u (chosen u es) [] h)) ∙ all-chosen 32 es filed
+      sum_same (λ d. length (chosen d es)) (λ d. length (listed es d)) 32 (λ u h. ap length (sym (cond_below u 32 (chosen u es) [] h))) ∙ all-chosen 32 es filed
 
 module _ {T : Type 0} where
   abbrev pub told : ℕ → T → Entry T
@@ -84,10 +84,10 @@ module _ {T : Type 0} where
 
   joined : (xs : List (Entry T)) (c : ℕ) (m : T) → c < 32 → listed (xs ++ told c m ∷ []) c ≡ listed xs c ++ m ∷ []
   joined xs c m low =
-      low_at c (chosen c (xs ++ told c m ∷ [])) [] low
+      sym (cond_below c 32 (chosen c (xs ++ told c m ∷ [])) [] low)
       ∙ chosen-append c xs (told c m ∷ [])
       ∙ ap (λ z. chosen c xs ++ z) (chosen-one c (told c m) [] refl)
-      ∙ ap (λ z. z ++ m ∷ []) (sym (low_at c (chosen c xs) [] low))
+      ∙ ap (λ z. z ++ m ∷ []) (cond_below c 32 (chosen c xs) [] low)
 
   joined_others : (xs : List (Entry T)) (c : ℕ) (m : T) (k : ℕ) → k ≢ c → listed (xs ++ told c m ∷ []) k ≡ listed xs k
   joined_others xs c m k ne =
@@ -134,13 +134,13 @@ module _ {T : Type 0} (xs : List (Entry T)) (i c : ℕ) (d : Entry T) (first : S
 
   left : c < 32 → listed xs c ≡ gone.message ∷ listed (remove xs i) c
   left low =
-      low_at c (chosen c xs) [] low
+      sym (cond_below c 32 (chosen c xs) [] low)
       ∙ ap (chosen c) whole
       ∙ chosen-append c (take i xs) (gone ∷ rest)
       ∙ ap (λ z. z ++ chosen c (gone ∷ rest)) (none_before c xs i (sym first))
       ∙ chosen-one c gone rest of_it
       ∙ ap (λ z. gone.message ∷ (z ++ chosen c rest)) (sym (none_before c xs i (sym first)))
-      ∙ ap (λ z. gone.message ∷ z) (sym (low_at c (chosen c (remove xs i)) [] low ∙ chosen-append c (take i xs) rest))
+      ∙ ap (λ z. gone.message ∷ z) (sym (chosen-append c (take i xs) rest) ∙ cond_below c 32 (chosen c (remove xs i)) [] low)
 
   left_others : (k : ℕ) → k ≢ c → listed (remove xs i) k ≡ listed xs k
   left_others k ne =
@@ -163,10 +163,10 @@ module _ {T : Type 0} (s : Pool T) where
       omega (arith, l, inside)
 
   pub count_is : (c : ℕ) → c < 32 → length (pool_waiting s c) ≡ count_by (λ e. eqb e.channel c) (take s.count s.memory.now)
-  count_is c low = ap length (low_at c (chosen c entries) [] low) ∙ length-map (filter (is_of c) entries) text ∙ length-filter (is_of c) entries
+  count_is c low = ap length (sym (cond_below c 32 (chosen c entries) [] low)) ∙ length-map (filter (is_of c) entries) text ∙ length-filter (is_of c) entries
 
   pub room_is : (c : ℕ) → c < 32 → pool_room s c ≡ length s.memory.now - s.count
-  room_is c low = low_at c (length s.memory.now - together (listed entries)) 0 low ∙ ap (λ w. length s.memory.now - w) counted
+  room_is c low = sym (cond_below c 32 (length s.memory.now - together (listed entries)) 0 low) ∙ ap (λ w. length s.memory.now - w) counted
 
   pub room_at_first : (c : ℕ) → c < 32 → s.count ≡ 0 → pool_room s c ≡ length s.memory.now
   room_at_first c low none = room_is c low ∙ omega (arith, none)

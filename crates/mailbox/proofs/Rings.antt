@@ -1,10 +1,10 @@
 -- Laws of lanes and rings. Assumes nothing.
-use Rattle.std.proofs.Common.{◌≡◌, ℕ, zero, suc, ◌+◌, ◌-◌, ◌*◌, ◌/◌, ◌<◌, ◌≤◌, cond, ltb, ◌≢◌, ◌⊎◌, List, [], ◌∷◌, ◌++◌, length, get_or, take, drop, set, replicate, sym, refl, ap, ◌∙◌, subst, inl, inr, ⊎_elim, mul-le-mul_right, add-mul, one-mul, add-one, arith}
+use Rattle.std.proofs.Common.{◌≡◌, ℕ, ◌+◌, ◌-◌, ◌*◌, ◌/◌, ◌<◌, ◌≤◌, cond, ltb, ◌≢◌, ◌⊎◌, List, [], ◌∷◌, ◌++◌, length, get_or, take, drop, set, replicate, sym, ap, ◌∙◌, subst, inl, inr, ⊎_elim, mul-le-mul_right, add-mul, one-mul, add-one, arith}
 use native.Mathlib.Nat.{mul-div-le}
 use lib.Seq.{take-set-lt}
-use Rattle.std.proofs.lemmas.List.{length-take, length-drop, length-set, length-append, take-set-le, drop-set-lt, drop-set-add, set-append_left, set-append_right, take_more_set, take_more, drop_more, take-append-le, take_all, drop_all, append-nil, append_assoc, get_or-set_same, get_or-set_other, get_or-drop, get_or-take}
-use Rattle.std.proofs.lemmas.Bool.{lt-ltb, le-ltb, cases_lt, cases_order}
-use Rattle.mailbox.proofs.Rooms.{low_at, cond_same, roomy-put, roomy-take}
+use Rattle.std.proofs.lemmas.List.{length-take, length-drop, length-set, length-append, take-set-le, drop-set-lt, drop-set-add, set-append_left, set-append_right, take_more_set, take_more, drop_more, take-append-le, take_all, drop_all, append-nil, append_assoc, get_or-set_same, get_or-set_other, get_or-drop, get_or-take, get_or-replicate, get_or_past}
+use Rattle.std.proofs.lemmas.Bool.{cond_below, lt-ltb, le-ltb, cases_lt, cases_order}
+use Rattle.mailbox.proofs.Rooms.{cond_same, roomy-put, roomy-take}
 use Rattle.mailbox.specs.Ring.{no_messages, Within, lane, turned, waits, around}
 use Rattle.mailbox.specs.LaneLists.{ring_of, lanes_waiting, lanes_room, lanes_kind}
 use Rattle.mailbox.specs.declared.ring.Ring.{Ring}
@@ -138,31 +138,31 @@ module _ {T : Type 0} (s : Lanes T) (c : ℕ) (low : c < 32) where
       let l = long in
       let w = within_lane in
       let t = length-turned ring.head its_lane (omega (arith, l, w.0)) in
-      ap length (low_at c (take ring.count (turned ring.head its_lane)) [] low) ∙ length-take ring.count (turned ring.head its_lane) ∙ omega (arith, l, t, w.1)
+      ap length (sym (cond_below c 32 (take ring.count (turned ring.head its_lane)) [] low)) ∙ length-take ring.count (turned ring.head its_lane) ∙ omega (arith, l, t, w.1)
 
   pub room_is : lanes_room s c ≡ s.size - ring.count
   room_is =
       let l = count_is in
       let cut = s.cut in
-      low_at c (length s.memory.now / 32 - length (lanes_waiting s c)) 0 low ∙ omega (arith, l, cut)
+      sym (cond_below c 32 (length s.memory.now / 32 - length (lanes_waiting s c)) 0 low) ∙ omega (arith, l, cut)
 
   -- a message that joins, where the place after the last one is
   waits-put : (m : T) (place : ℕ) → ring.count < s.size → place < s.size → place ≡ around s.size ring.head ring.count → waits (set s.memory.now (c * s.size + place) m) s.size (record { head = ring.head; count = ring.count + 1 }) c ≡ lanes_waiting s c ++ m ∷ []
   waits-put m place full within at =
-      low_at c (take (ring.count + 1) (turned ring.head (lane (set s.memory.now (c * s.size + place) m) s.size c))) [] low
+      sym (cond_below c 32 (take (ring.count + 1) (turned ring.head (lane (set s.memory.now (c * s.size + place) m) s.size c))) [] low)
       ∙ ap (λ l. take (ring.count + 1) (turned ring.head l)) (lane-set-same s.memory.now s.size c place m within)
       ∙ ap (λ i. take (ring.count + 1) (turned ring.head (set its_lane i m))) at
       ∙ ring_put its_lane s.size ring.head ring.count m long within_lane.0 full
-      ∙ ap (λ z. z ++ m ∷ []) (sym (low_at c (take ring.count (turned ring.head its_lane)) [] low))
+      ∙ ap (λ z. z ++ m ∷ []) (cond_below c 32 (take ring.count (turned ring.head its_lane)) [] low)
 
   -- the first message, where the head is, leaves
   waits-take : (m : T) (place : ℕ) → 0 < ring.count → place < s.size → place ≡ around s.size ring.head 0 → m ≡ get_or s.memory.now (c * s.size + place) m → lanes_waiting s c ≡ m ∷ waits s.memory.now s.size (record { head = place + 1; count = ring.count - 1 }) c
   waits-take m place some within at read =
       let read' : m ≡ get_or its_lane place m = read ∙ sym (get_or-take s.size (drop (c * s.size) s.memory.now) place m within ∙ get_or-drop (c * s.size) s.memory.now place m) in
-      low_at c (take ring.count (turned ring.head its_lane)) [] low
+      sym (cond_below c 32 (take ring.count (turned ring.head its_lane)) [] low)
       ∙ ring_take its_lane s.size ring.head ring.count m long within_lane.0 some within_lane.1 (read' ∙ ap (λ i. get_or its_lane i m) at)
       ∙ ap (λ i. m ∷ take (ring.count - 1) (turned (i + 1) its_lane)) (sym at)
-      ∙ ap (λ z. m ∷ z) (sym (low_at c (take (ring.count - 1) (turned (place + 1) its_lane)) [] low))
+      ∙ ap (λ z. m ∷ z) (cond_below c 32 (take (ring.count - 1) (turned (place + 1) its_lane)) [] low)
 
   -- what the lanes are once a message has joined or left; i is where it is in the memory
   module _ (t : Lanes T) (place i : ℕ) (m : T) (inside : place < s.size) (at : i ≡ c * s.size + place) (size : t.size ≡ s.size) where
@@ -197,10 +197,18 @@ module _ {T : Type 0} (s : Lanes T) (c : ℕ) (low : c < 32) where
           roomy = roomy-take (length s.memory.now / 32) (length t.memory.now / 32) (lanes_waiting s) (lanes_waiting t) c m (ap (λ z. length z / 32) memory) others removed;
         }
 
-none_of : (n k : ℕ) → get_or (replicate n no_messages) k no_messages ≡ no_messages
-none_of zero k = refl
-none_of (suc n) zero = refl
-none_of (suc n) (suc k) = none_of n k
+none_of : (k : ℕ) → ring_of (replicate 32 no_messages) k ≡ no_messages
+none_of k =
+    ⊎_elim
+    (λ (lt : k < 32). get_or-replicate 32 k no_messages no_messages lt)
+    (λ (le : 32 ≤ k). get_or_past (replicate 32 no_messages) k no_messages le)
+    (cases_lt k 32)
 
-pub waits_none : {M : Type 0} (mem : List M) (size : ℕ) (rings : List Ring) (k : ℕ) → rings ≡ replicate 32 no_messages → waits mem size (ring_of rings k) k ≡ []
-waits_none mem size rings k e = ap (λ r. waits mem size r k) (ap (λ z. get_or z k no_messages) e ∙ none_of 32 k) ∙ cond_same (ltb k 32) []
+module _ {T : Type 0} (mem : List T) (size : ℕ) (rings : List Ring) (empty : rings ≡ replicate 32 no_messages) (c : ℕ) where
+  pub none_waits : waits mem size (ring_of rings c) c ≡ []
+  none_waits = ap (λ r. waits mem size r c) (ap (λ z. ring_of z c) empty ∙ none_of c) ∙ cond_same (ltb c 32) []
+
+  pub room_at_first : c < 32 → cond (ltb c 32) (size - length (waits mem size (ring_of rings c) c)) 0 ≡ size
+  room_at_first low =
+      let none = ap length none_waits in
+      sym (cond_below c 32 (size - length (waits mem size (ring_of rings c) c)) 0 low) ∙ omega (arith, none)

@@ -4,7 +4,7 @@ ghost use Rattle.std.specs.Prelude.{◌≡◌, ◌<◌, ◌≤◌, MatchOption};
 // How many object numbers have a list: 0 to 31.
 pub const CHANNELS: usize = 32;
 
-// The number of a channel that has a list.
+// The number of a channel that has a list. Only this crate can name it.
 #[derive(Clone, Copy)]
 pub struct Channel {
     pub(crate) number: usize,

@@ -20,8 +20,8 @@ pub trait Mailbox {
     fn room(&self, channel: usize) -> usize
         ensures { result ≡ kind.room self.now channel };
 
-    // Joins a message to the end of the channel's list if there is room.
-    // A bool, for the answer to a put says whether it was taken.
+    // Joins a message to the end of the channel's list if there is room; answers whether there was. A bool, since a put
+    // answers whether it was taken, and nothing else can be wrong with it.
     fn put(&mut self, channel: usize, message: Self::Message) -> bool
         ensures { PutAnswer kind self.old channel message result self.new };
 

@@ -6,7 +6,8 @@ ghost use Rattle.mailbox.specs.Contract.{Bounded, PutAnswer, TakeAnswer};
 use crate::channel::Channel;
 use crate::kind::Mailbox;
 
-// The lists of a mailbox in lent memory.
+// The lists of a mailbox in lent memory. Only this crate can name the trait: it is `pub`, in a private module, since the
+// public trait below is given for each type that has it.
 pub trait Lists {
     type Message: Copy;
 

@@ -72,6 +72,7 @@ impl<'a, T: Copy> Lists for Pool<'a, T> {
         self.count_of(channel.number)
     }
 
+    // The room of a pool is the same under every number.
     #[tactic(auto, using(crate::proofs::Arrivals::room_is))]
     fn free(&self, _channel: Channel) -> usize {
         self.memory.len() - self.count
