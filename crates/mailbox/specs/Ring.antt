@@ -2,6 +2,7 @@
 use Rattle.std.specs.Prelude.{ℕ, ◌+◌, ◌-◌, ◌*◌, ◌≤◌, cond, List, [], ◌++◌, take, drop, nat_lt}
 use Rattle.mailbox.specs.declared.ring.Ring.{Ring}
 
+-- The ring of an empty list.
 abbrev pub no_messages : Ring
 no_messages = record { head = 0; count = 0 }
 

@@ -6,7 +6,7 @@ ghost use Rattle.mailbox.specs.Ring.{Within};
 use crate::channel::CHANNELS;
 use crate::ring::Ring;
 
-// The caller's memory in 32 equal lanes, one for each object number. A lane is a ring.
+// The caller's memory in 32 equal lanes, one for each object number, each read as a ring.
 #[derive(Drop)]
 pub struct Lanes<'a, T: Copy> {
     pub(crate) memory: &'a mut [T],
