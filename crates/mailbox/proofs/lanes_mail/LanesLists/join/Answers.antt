@@ -1,4 +1,4 @@
-use Rattle.std.proofs.Common.{◌+◌, ◌/◌, sym, refl, ap, ◌∙◌, arith}
+use Rattle.std.proofs.Common.{◌+◌, refl, ◌∙◌, arith}
 use Rattle.std.proofs.lemmas.List.{length-set}
 use Rattle.std.proofs.lemmas.List.Elements.{All-set}
 use Rattle.mailbox.specs.LaneLists.{ring_of}
@@ -6,16 +6,18 @@ use Rattle.mailbox.specs.Ring.{Within}
 use Rattle.mailbox.proofs.Rings.{within_lane, room_is, put_made}
 use Rattle.mailbox.proofs.lanes_mail.LanesLists.join.Goals as goal
 
-pub invariant_of-self : goal.invariant_of-self
-invariant_of-self g c =
+pub invariant_of-self-clause-each : goal.invariant_of-self-clause-each
+invariant_of-self-clause-each g c =
+    let s = c.args.self.now in
+    let r = ring_of s.rings c.args.channel.number in
+    length-set s.rings c.args.channel.number (record { head = r.head; count = r.count + 1 }) ∙ s.each
+
+pub invariant_of-self-clause-inside : goal.invariant_of-self-clause-inside
+invariant_of-self-clause-inside g c =
     let s = c.args.self.now in
     let ch = c.args.channel in
     let room = room_is s ch.number ch.below in
-    record {
-      cut = s.cut ∙ ap (λ n. n / 32) (sym (length-set s.memory.now c.index-i.result c.args.message));
-      each = length-set s.rings ch.number (record { head = (ring_of s.rings ch.number).head; count = (ring_of s.rings ch.number).count + 1 }) ∙ s.each;
-      inside = All-set (Within s.size) s.rings ch.number _ ((within_lane s ch.number ch.below).0, omega (arith, room, c.requires)) s.inside;
-    }
+    All-set (Within s.size) s.rings ch.number _ ((within_lane s ch.number ch.below).0, omega (arith, room, c.requires)) s.inside
 
 pub returns-clause-put : goal.returns-clause-put
 returns-clause-put g c =
