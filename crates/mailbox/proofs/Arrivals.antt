@@ -1,93 +1,59 @@
 -- Laws of the messages of one channel. Assumes nothing.
-use Rattle.std.proofs.Common.{◌≡◌, ℕ, suc, ◌+◌, ◌-◌, ◌<◌, ◌≤◌, Bool, true, false, cond, eqb, ltb, ◌≢◌, List, [], ◌∷◌, ◌++◌, length, get_or, take, drop, set, sym, refl, ap, ◌∙◌, subst, ⊎_elim, add-one, arith}
-use Rattle.std.proofs.lemmas.List.{take_more, take_more_set, append-nil, take-append-drop, length-take-le, drop_more, get_or-take, get_or-set_same, get_or-set_other}
-use Rattle.std.proofs.lemmas.Bool.{lt-ltb, eq-eqb, ne_eqb, cases_eq}
-use lib.Seq.{take-append-add}
-use Rattle.std.specs.List.{remove}
+use Rattle.std.proofs.Common.{◌≡◌, ℕ, suc, ◌+◌, ◌-◌, ◌<◌, ◌≤◌, Bool, false, cond, eqb, ltb, ◌≢◌, List, [], ◌∷◌, ◌++◌, length, get_or, take, drop, set, map, Some, None, sym, refl, ap, ◌∙◌, ⊎_elim, add-one, arith, rules}
+use Rattle.std.proofs.lemmas.List.{append-nil, take-append-drop, take-append-le, take_all, take_more_set, drop_more, map-append, length-map, length-take, length-drop, length-set, length-take-le, get_or-take}
+use Rattle.std.proofs.lemmas.List.Edits.{take-paste, length-paste, length-remove}
+use Rattle.std.proofs.lemmas.List.Elements.{All-head, All-tail, All-append, All-take, All-drop, filter-append}
+use Rattle.std.proofs.lemmas.List.Quantifiers.{position-Some}
+use Rattle.std.proofs.lemmas.List.Sums.{length-filter, fails_before_first}
+use Rattle.std.proofs.lemmas.Bool.{cond_below, lt-ltb, eq-eqb, ne_eqb, eqb-true, cases_lt}
+use lib.Seq.{paste}
+use Rattle.std.specs.List.{All, remove, copy_within, filter, count_by, position, position_or_len}
 use Rattle.model.specs.Program.{sum}
 use Rattle.model.proofs.Sums.{sum_same, sum_change, sum_zero}
-use Rattle.mailbox.proofs.Rooms.{low_at}
+use Rattle.mailbox.proofs.Rooms.{free_le, free_more}
 use Rattle.mailbox.specs.Contract.{together}
-use Rattle.mailbox.specs.Entries.{chosen, Filed}
+use Rattle.mailbox.specs.Entries.{chosen, listed}
+use Rattle.mailbox.specs.PoolLists.{pool_waiting, pool_room, pool_kind}
 use Rattle.mailbox.specs.declared.entry.Entry.{Entry}
+use Rattle.mailbox.specs.declared.pool.Pool.{Pool}
+use Rattle.model.specs.Mailbox.{Put, Take}
+
+none_pass : {X : Type 0} (p : X → Bool) (xs : List X) → All (λ x. p x ≡ false) xs → filter p xs ≡ []
+none_pass p [] h = refl
+none_pass p (x ∷ xs) h = ap (λ b. cond b (x ∷ filter p xs) (filter p xs)) (All-head (λ x. p x ≡ false) x xs h) ∙ none_pass p xs (All-tail (λ x. p x ≡ false) x xs h)
 
 module _ {T : Type 0} where
-  cond_append : (b : Bool) (x : T) (xs ys : List T) → cond b (x ∷ (xs ++ ys)) (xs ++ ys) ≡ cond b (x ∷ xs) xs ++ ys
-  cond_append true x xs ys = refl
-  cond_append false x xs ys = refl
+  abbrev pub is_of : ℕ → Entry T → Bool
+  is_of c e = eqb e.channel c
 
-  pub chosen-append : (c : ℕ) (xs ys : List (Entry T)) → chosen c (xs ++ ys) ≡ chosen c xs ++ chosen c ys
-  chosen-append c [] ys = refl
-  chosen-append c (e ∷ es) ys =
-      ap (λ z. cond (eqb e.channel c) (e.message ∷ z) z) (chosen-append c es ys) ∙ cond_append (eqb e.channel c) e.message (chosen c es) (chosen c ys)
+  abbrev text : Entry T → T
+  text e = e.message
 
-  pub chosen-one : (c : ℕ) (e : Entry T) → e.channel ≡ c → chosen c (e ∷ []) ≡ e.message ∷ []
-  chosen-one c e h = ap (λ b. cond b (e.message ∷ []) []) (eq-eqb e.channel c h)
+  chosen-append : (c : ℕ) (xs ys : List (Entry T)) → chosen c (xs ++ ys) ≡ chosen c xs ++ chosen c ys
+  chosen-append c xs ys = ap (map text) (filter-append (is_of c) xs ys) ∙ map-append text (filter (is_of c) xs) (filter (is_of c) ys)
 
-  pub chosen-other : (c : ℕ) (e : Entry T) → (e.channel ≡ c → ⊥) → chosen c (e ∷ []) ≡ []
-  chosen-other c e h = ap (λ b. cond b (e.message ∷ []) []) (ne_eqb e.channel c h)
+  -- an entry of channel c before others, and one of another channel
+  chosen-one : (c : ℕ) (e : Entry T) (es : List (Entry T)) → e.channel ≡ c → chosen c (e ∷ es) ≡ e.message ∷ chosen c es
+  chosen-one c e es h = ap (λ b. map text (cond b (e ∷ filter (is_of c) es) (filter (is_of c) es))) (eq-eqb e.channel c h)
 
-  pub chosen_more : (c : ℕ) (xs : List (Entry T)) (i : ℕ) (d : Entry T) → i < length xs → chosen c (take (i + 1) xs) ≡ chosen c (take i xs) ++ chosen c (get_or xs i d ∷ [])
-  chosen_more c xs i d h = ap (chosen c) (take_more xs i d h) ∙ chosen-append c (take i xs) (get_or xs i d ∷ [])
+  chosen-other : (c : ℕ) (e : Entry T) (es : List (Entry T)) → e.channel ≢ c → chosen c (e ∷ es) ≡ chosen c es
+  chosen-other c e es h = ap (λ b. map text (cond b (e ∷ filter (is_of c) es) (filter (is_of c) es))) (ne_eqb e.channel c h)
 
-  pub chosen-put : (c : ℕ) (xs : List (Entry T)) (i : ℕ) (e : Entry T) → i < length xs → chosen c (take (i + 1) (set xs i e)) ≡ chosen c (take i xs) ++ chosen c (e ∷ [])
-  chosen-put c xs i e h = ap (chosen c) (take_more_set xs i e h) ∙ chosen-append c (take i xs) (e ∷ [])
+  -- what the first place of a channel says of its messages
+  pub none_chosen : (c : ℕ) (es : List (Entry T)) → None ≡ position (is_of c) es → chosen c es ≡ []
+  none_chosen c es h =
+      ⊎_elim
+      (λ (lt : position_or_len (is_of c) es < length es).
+      let e : position (is_of c) es ≡ Some (position_or_len (is_of c) es) = ap (λ b. cond b (Some (position_or_len (is_of c) es)) None) (lt-ltb (position_or_len (is_of c) es) (length es) lt) in
+      absurd (search (rules, h ∙ e)))
+      (λ (le : length es ≤ position_or_len (is_of c) es). ap (map text) (none_pass (is_of c) es (λ k d lt. fails_before_first (is_of c) es k d (omega arith))))
+      (cases_lt (position_or_len (is_of c) es) (length es))
 
-module _ {T : Type 0} where
-  abbrev pub told : ℕ → T → Entry T
-  told c m = record { channel = c; message = m }
-
-  pub put_same : (xs : List (Entry T)) (n c : ℕ) (m : T) → c < 32 → n < length xs → cond (ltb c 32) (chosen c (take (n + 1) (set xs n (told c m)))) [] ≡ cond (ltb c 32) (chosen c (take n xs)) [] ++ m ∷ []
-  put_same xs n c m low lt =
-      let t = lt-ltb c 32 low in
-      ap (λ b. cond b (chosen c (take (n + 1) (set xs n (told c m)))) []) t
-      ∙ chosen-put c xs n (told c m) lt
-      ∙ ap (λ z. chosen c (take n xs) ++ z) (chosen-one c (told c m) refl)
-      ∙ ap (λ b. cond b (chosen c (take n xs)) [] ++ m ∷ []) (sym t)
-
-  pub put_other : (xs : List (Entry T)) (n c : ℕ) (m : T) → n < length xs → (k : ℕ) → (k ≡ c → ⊥) → cond (ltb k 32) (chosen k (take (n + 1) (set xs n (told c m)))) [] ≡ cond (ltb k 32) (chosen k (take n xs)) []
-  put_other xs n c m lt k ne =
-      ap (λ z. cond (ltb k 32) z [])
-      (chosen-put k xs n (told c m) lt ∙ ap (λ z. chosen k (take n xs) ++ z) (chosen-other k (told c m) (λ e. ne (sym e))) ∙ append-nil (chosen k (take n xs)))
-
--- E is what the memory held, N what it holds once the entry at a place has gone
-module _ {T : Type 0} (E N : List (Entry T)) (at n m : ℕ) (d : Entry T) (lt : at < n) (le : n ≤ length E) (down : m ≡ n - 1) (items : take (n - 1) N ≡ take (n - 1) (remove E at)) where
-  abbrev rest : List (Entry T)
-  rest = take (n - 1 - at) (drop (suc at) E)
-
-  front : length (take at E) ≡ at
-  front = length-take-le at E (omega arith)
-
-  before : take n E ≡ take at E ++ (get_or E at d ∷ rest)
-  before =
-      let x : E ≡ take at E ++ (get_or E at d ∷ drop (suc at) E) =
-      sym (take-append-drop at E) ∙ ap (λ z. take at E ++ z) (drop_more E at d (omega arith) ∙ ap (λ i. get_or E at d ∷ drop i E) (add-one at)) in
-      let l = front in
-      let k : n ≡ length (take at E) + suc (n - 1 - at) = omega (arith, l) in
-      ap (take n) x ∙ ap (λ i. take i (take at E ++ (get_or E at d ∷ drop (suc at) E))) k ∙ take-append-add (take at E) (get_or E at d ∷ drop (suc at) E) (suc (n - 1 - at))
-
-  after : take m N ≡ take at E ++ rest
-  after =
-      let l = front in
-      let k : n - 1 ≡ length (take at E) + (n - 1 - at) = omega (arith, l) in
-      ap (λ i. take i N) down ∙ items ∙ ap (λ i. take i (take at E ++ drop (suc at) E)) k ∙ take-append-add (take at E) (drop (suc at) E) (n - 1 - at)
-
-  pub left_first : (c : ℕ) → c < 32 → (get_or E at d).channel ≡ c → chosen c (take at E) ≡ [] → cond (ltb c 32) (chosen c (take n E)) [] ≡ (get_or E at d).message ∷ cond (ltb c 32) (chosen c (take m N)) []
-  left_first c low here none =
-      let t = lt-ltb c 32 low in
-      let a : chosen c (take n E) ≡ (get_or E at d).message ∷ chosen c rest =
-      ap (chosen c) before ∙ chosen-append c (take at E) (get_or E at d ∷ rest) ∙ ap (λ z. z ++ chosen c (get_or E at d ∷ rest)) none
-      ∙ ap (λ b. cond b ((get_or E at d).message ∷ chosen c rest) (chosen c rest)) (eq-eqb (get_or E at d).channel c here) in
-      let b : chosen c (take m N) ≡ chosen c rest = ap (chosen c) after ∙ chosen-append c (take at E) rest ∙ ap (λ z. z ++ chosen c rest) none in
-      ap (λ q. cond q (chosen c (take n E)) []) t ∙ a ∙ ap (λ z. (get_or E at d).message ∷ z) (sym (ap (λ q. cond q (chosen c (take m N)) []) t ∙ b))
-
-  pub left_other : (c : ℕ) → (get_or E at d).channel ≡ c → (k : ℕ) → (k ≡ c → ⊥) → cond (ltb k 32) (chosen k (take m N)) [] ≡ cond (ltb k 32) (chosen k (take n E)) []
-  left_other c here k ne =
-      let a : chosen k (take n E) ≡ chosen k (take at E) ++ chosen k rest =
-      ap (chosen k) before ∙ chosen-append k (take at E) (get_or E at d ∷ rest)
-      ∙ ap (λ b. chosen k (take at E) ++ cond b ((get_or E at d).message ∷ chosen k rest) (chosen k rest)) (ne_eqb (get_or E at d).channel k (λ e. ne (sym e ∙ here))) in
-      let b : chosen k (take m N) ≡ chosen k (take at E) ++ chosen k rest = ap (chosen k) after ∙ chosen-append k (take at E) rest in
-      ap (λ z. cond (ltb k 32) z []) (b ∙ sym a)
+  none_before : (c : ℕ) (es : List (Entry T)) (i : ℕ) → position (is_of c) es ≡ Some i → chosen c (take i es) ≡ []
+  none_before c es i h =
+      ap (map text) (none_pass (is_of c) (take i es) (λ k e lt.
+      let low : k < i = omega (arith, length-take i es) in
+      ap (is_of c) (get_or-take i es k e low) ∙ (position-Some (is_of c) es i e h).2 k low))
 
 -- how many entries there are of the channels below n, where each has one
 module _ {T : Type 0} where
@@ -95,36 +61,141 @@ module _ {T : Type 0} where
   sum_one ch n e es h lt =
       let f : ℕ → ℕ = λ d. length (chosen d es) in
       let g : ℕ → ℕ = λ d. length (chosen d (e ∷ es)) in
-      let at : g ch ≡ suc (f ch) = ap (λ b. length (cond b (e.message ∷ chosen ch es) (chosen ch es))) (eq-eqb e.channel ch h) in
-      let off : (u : ℕ) → u < n → u ≢ ch → g u ≡ f u = λ u k ne. ap (λ b. length (cond b (e.message ∷ chosen u es) (chosen u es))) (ne_eqb e.channel u (λ q. ne (sym q ∙ h))) in
+      let at : g ch ≡ suc (f ch) = ap length (chosen-one ch e es h) in
+      let off : (u : ℕ) → u < n → u ≢ ch → g u ≡ f u = λ u k ne. ap length (chosen-other u e es (λ q. ne (sym q ∙ h))) in
       let s : sum g n + f ch ≡ sum f n + g ch = sum_change f g n ch lt off in
       omega (arith, s, at)
 
-  pub all-chosen : (n : ℕ) (es : List (Entry T)) → ((k : ℕ) (e : Entry T) → k < length es → (get_or es k e).channel < n) → sum (λ d. length (chosen d es)) n ≡ length es
+  all-chosen : (n : ℕ) (es : List (Entry T)) → All (λ e. e.channel < n) es → sum (λ d. length (chosen d es)) n ≡ length es
   all-chosen n [] h = sum_zero (λ d. 0) n (λ u k. refl)
   all-chosen n (e ∷ es) h =
-      let r = all-chosen n es (λ k d lt. h (suc k) d (omega arith)) in
-      let o = sum_one e.channel n e es refl (h 0 e (omega arith)) in
+      let r = all-chosen n es (All-tail (λ e. e.channel < n) e es h) in
+      let o = sum_one e.channel n e es refl (All-head (λ e. e.channel < n) e es h) in
       omega (arith, r, o)
 
-  pub all-counted : (n : ℕ) (xs : List (Entry T)) → n ≤ length xs → Filed n xs → together (λ d. cond (ltb d 32) (chosen d (take n xs)) []) ≡ n
+  all-counted : (es : List (Entry T)) → All (λ e. e.channel < 32) es → together (listed es) ≡ length es
   unfolding together
-  all-counted n xs le filed =
-      let l : length (take n xs) ≡ n = length-take-le n xs le in
-      let a = all-chosen 32 (take n xs) (λ k e lt. let q : k < n = omega (arith, l, lt) in subst (λ x. x.channel < 32) (sym (get_or-take n xs k e q)) (filed k e q)) in
-      let b = sum_same (λ d. length (chosen d (take n xs))) (λ d. length (cond (ltb d 32) (chosen d (take n xs)) [])) 32 (λ u h. ap length (low_at u (chosen u (take n xs)) [] h)) in
-      b ∙ a ∙ l
+  all-counted es filed =
+      sum_same (λ d. length (chosen d es)) (λ d. length (listed es d)) 32 (λ u h. ap length (sym (cond_below u 32 (chosen u es) [] h))) ∙ all-chosen 32 es filed
 
-  pub filed_put : (n : ℕ) (xs : List (Entry T)) (x : Entry T) → n < length xs → Filed n xs → x.channel < 32 → Filed (n + 1) (set xs n x)
-  filed_put n xs x l filed low k e h =
-      ⊎_elim
-      (λ (q : k ≡ n). subst (λ j. (get_or (set xs n x) j e).channel < 32) (sym q) (subst (λ y. y.channel < 32) (sym (get_or-set_same xs n x e l)) low))
-      (λ (ne : k ≡ n → ⊥). subst (λ y. y.channel < 32) (sym (get_or-set_other xs n k x e ne)) (filed k e (omega arith)))
-      (cases_eq k n)
+module _ {T : Type 0} where
+  abbrev pub told : ℕ → T → Entry T
+  told c m = record { channel = c; message = m }
 
-  pub filed_over : (n : ℕ) (xs : List (Entry T)) (i : ℕ) (x : Entry T) → i < length xs → Filed n xs → x.channel < 32 → Filed n (set xs i x)
-  filed_over n xs i x l filed low k e h =
-      ⊎_elim
-      (λ (q : k ≡ i). subst (λ j. (get_or (set xs i x) j e).channel < 32) (sym q) (subst (λ y. y.channel < 32) (sym (get_or-set_same xs i x e l)) low))
-      (λ (ne : k ≡ i → ⊥). subst (λ y. y.channel < 32) (sym (get_or-set_other xs i k x e ne)) (filed k e h))
-      (cases_eq k i)
+  joined : (xs : List (Entry T)) (c : ℕ) (m : T) → c < 32 → listed (xs ++ told c m ∷ []) c ≡ listed xs c ++ m ∷ []
+  joined xs c m low =
+      sym (cond_below c 32 (chosen c (xs ++ told c m ∷ [])) [] low)
+      ∙ chosen-append c xs (told c m ∷ [])
+      ∙ ap (λ z. chosen c xs ++ z) (chosen-one c (told c m) [] refl)
+      ∙ ap (λ z. z ++ m ∷ []) (cond_below c 32 (chosen c xs) [] low)
+
+  joined_others : (xs : List (Entry T)) (c : ℕ) (m : T) (k : ℕ) → k ≢ c → listed (xs ++ told c m ∷ []) k ≡ listed xs k
+  joined_others xs c m k ne =
+      ap (λ z. cond (ltb k 32) z [])
+      (chosen-append k xs (told c m ∷ []) ∙ ap (λ z. chosen k xs ++ z) (chosen-other k (told c m) [] (λ e. ne (sym e))) ∙ append-nil (chosen k xs))
+
+-- A pool of which the first n entries are in use: those after a place move up by one, over the one that stood there.
+pub gap_closed : {X : Type 0} (mem moved : List X) (n i : ℕ) → n ≤ length mem → i < n → moved ≡ copy_within (take n mem) (i + 1) (length (take n mem)) i → take (n - 1) (moved ++ drop n mem) ≡ remove (take n mem) i
+gap_closed mem moved n i fits lt made =
+    let xs = take n mem in
+    let s = drop (i + 1) xs in
+    let k : ℕ = length xs - (i + 1) in
+    let long : length xs ≡ n = length-take-le n mem fits in
+    let l : length s ≡ k = length-drop (i + 1) xs in
+    let whole = length-paste xs i s k (omega arith) (omega (arith, l)) in
+    let at : n - 1 ≡ i + k = omega arith in
+    ap (λ z. take (n - 1) (z ++ drop n mem)) made
+    ∙ take-append-le (n - 1) (paste xs i s k) (drop n mem) (omega (arith, whole))
+    ∙ ap (λ j. take j (paste xs i s k)) at
+    ∙ take-paste xs i s k (omega arith) (omega (arith, l))
+    ∙ ap (λ z. take i xs ++ z) (take_all k s (omega (arith, l)))
+    ∙ ap (λ j. take i xs ++ drop j xs) (add-one i)
+
+pub filed_left : {T : Type 0} (xs : List (Entry T)) (i : ℕ) → All (λ e. e.channel < 32) xs → All (λ e. e.channel < 32) (remove xs i)
+filed_left xs i filed =
+    All-append (λ e. e.channel < 32) (take i xs) (drop (suc i) xs) (All-take (λ e. e.channel < 32) i xs filed) (All-drop (λ e. e.channel < 32) (suc i) xs filed)
+
+-- the first entry of channel c, which leaves
+module _ {T : Type 0} (xs : List (Entry T)) (i c : ℕ) (d : Entry T) (first : Some i ≡ position (is_of c) xs) where
+  abbrev gone : Entry T
+  gone = get_or xs i d
+
+  abbrev rest : List (Entry T)
+  rest = drop (suc i) xs
+
+  first_within : i < length xs
+  first_within = (position-Some (is_of c) xs i d (sym first)).0
+
+  of_it : gone.channel ≡ c
+  of_it = eqb-true gone.channel c (position-Some (is_of c) xs i d (sym first)).1
+
+  whole : xs ≡ take i xs ++ (gone ∷ rest)
+  whole = sym (take-append-drop i xs) ∙ ap (λ z. take i xs ++ z) (drop_more xs i d first_within ∙ ap (λ j. gone ∷ drop j xs) (add-one i))
+
+  left : c < 32 → listed xs c ≡ gone.message ∷ listed (remove xs i) c
+  left low =
+      sym (cond_below c 32 (chosen c xs) [] low)
+      ∙ ap (chosen c) whole
+      ∙ chosen-append c (take i xs) (gone ∷ rest)
+      ∙ ap (λ z. z ++ chosen c (gone ∷ rest)) (none_before c xs i (sym first))
+      ∙ chosen-one c gone rest of_it
+      ∙ ap (λ z. gone.message ∷ (z ++ chosen c rest)) (sym (none_before c xs i (sym first)))
+      ∙ ap (λ z. gone.message ∷ z) (sym (chosen-append c (take i xs) rest) ∙ cond_below c 32 (chosen c (remove xs i)) [] low)
+
+  left_others : (k : ℕ) → k ≢ c → listed (remove xs i) k ≡ listed xs k
+  left_others k ne =
+      ap (λ z. cond (ltb k 32) z [])
+      (chosen-append k (take i xs) rest
+      ∙ ap (λ z. chosen k (take i xs) ++ z) (sym (chosen-other k gone rest (λ e. ne (sym e ∙ of_it))))
+      ∙ sym (ap (chosen k) whole ∙ chosen-append k (take i xs) (gone ∷ rest)))
+
+module _ {T : Type 0} (s : Pool T) where
+  abbrev entries : List (Entry T)
+  entries = take s.count s.memory.now
+
+  counted : together (listed entries) ≡ s.count
+  counted = all-counted entries s.filed ∙ length-take-le s.count s.memory.now s.fits
+
+  pub place_within : (c i : ℕ) (d : Entry T) → Some i ≡ position (is_of c) entries → i < s.count
+  place_within c i d first =
+      let l = length-take-le s.count s.memory.now s.fits in
+      let inside = first_within entries i c d first in
+      omega (arith, l, inside)
+
+  pub count_is : (c : ℕ) → c < 32 → length (pool_waiting s c) ≡ count_by (λ e. eqb e.channel c) (take s.count s.memory.now)
+  count_is c low = ap length (sym (cond_below c 32 (chosen c entries) [] low)) ∙ length-map (filter (is_of c) entries) text ∙ length-filter (is_of c) entries
+
+  pub room_is : (c : ℕ) → c < 32 → pool_room s c ≡ length s.memory.now - s.count
+  room_is c low = sym (cond_below c 32 (length s.memory.now - together (listed entries)) 0 low) ∙ ap (λ w. length s.memory.now - w) counted
+
+  pub room_at_first : (c : ℕ) → c < 32 → s.count ≡ 0 → pool_room s c ≡ length s.memory.now
+  room_at_first c low none = room_is c low ∙ omega (arith, none)
+
+-- what a pool is once a message of channel c has joined or left
+module _ {T : Type 0} (s t : Pool T) (c : ℕ) (low : c < 32) where
+  pub put_made : (m : T) → s.count < length s.memory.now → t.memory.now ≡ set s.memory.now s.count (told c m) → t.count ≡ s.count + 1 → Put pool_kind s c m t
+  put_made m free memory count =
+      let more : entries t ≡ entries s ++ told c m ∷ [] = ap (λ n. take n t.memory.now) count ∙ ap (take (s.count + 1)) memory ∙ take_more_set s.memory.now s.count (told c m) free in
+      let before = counted s in
+      let after = counted t in
+      record {
+        joined = ap (λ z. listed z c) more ∙ joined (entries s) c m low;
+        others = λ k ne. ap (λ z. listed z k) more ∙ joined_others (entries s) c m k ne;
+        roomy = free_le (length s.memory.now) (length t.memory.now) _ _ (ap length memory ∙ length-set s.memory.now s.count (told c m)) (omega (arith, before, after, count));
+      }
+
+  pub take_made : (i : ℕ) (d : Entry T) → Some i ≡ position (is_of c) (entries s) → entries t ≡ remove (entries s) i → length t.memory.now ≡ length s.memory.now → Take pool_kind s c (get_or s.memory.now i d).message t
+  take_made i d first closed same =
+      let before = counted s in
+      let after = counted t in
+      let inside = place_within s c i d first in
+      let l = length-take-le s.count s.memory.now s.fits in
+      let l' = length-take-le t.count t.memory.now t.fits in
+      let fewer = length-remove (entries s) i (omega (arith, l, inside)) in
+      let e = ap length closed in
+      let m : (get_or (entries s) i d).message ≡ (get_or s.memory.now i d).message = ap (λ e. e.message) (get_or-take s.count s.memory.now i d inside) in
+      record {
+        removed = left (entries s) i c d first low ∙ ap (λ z. z ∷ listed (remove (entries s) i) c) m ∙ ap (λ z. (get_or s.memory.now i d).message ∷ listed z c) (sym closed);
+        others = λ k ne. ap (λ z. listed z k) closed ∙ left_others (entries s) i c d first k ne;
+        roomy = free_more (length s.memory.now) (length t.memory.now) _ _ same (omega (arith, before, after, l, l', fewer, e));
+      }

@@ -1,24 +1,13 @@
 -- Rooms that are given by a list's length. Assumes nothing.
-use Rattle.std.proofs.Common.{◌≡◌, ℕ, suc, ◌+◌, ◌-◌, ◌<◌, ◌≤◌, Bool, true, false, cond, ltb, ◌≢◌, List, [], ◌∷◌, ◌++◌, length, sym, refl, ap, ◌∙◌, subst, ⊎_elim, arith}
+use Rattle.std.proofs.Common.{◌≡◌, ℕ, suc, ◌+◌, ◌-◌, ◌≤◌, Bool, true, false, cond, ltb, ◌≢◌, List, [], ◌∷◌, ◌++◌, length, sym, refl, ap, ◌∙◌, subst, ⊎_elim, arith}
 use Rattle.std.proofs.lemmas.List.{length_push}
-use Rattle.std.proofs.lemmas.Bool.{lt-ltb, le-ltb, cases_lt, cases_eq}
-
-pub low_at : {A : Type 0} (c : ℕ) (x y : A) → c < 32 → cond (ltb c 32) x y ≡ x
-low_at c x y h = ap (λ b. cond b x y) (lt-ltb c 32 h)
+use Rattle.std.proofs.lemmas.Bool.{cases_eq}
 
 pub cond_same : {A : Type 0} (b : Bool) (x : A) → cond b x x ≡ x
 cond_same true x = refl
 cond_same false x = refl
 
--- only a number below 32 has room
-pub roomy_low : (c x : ℕ) → 1 ≤ cond (ltb c 32) x 0 → c < 32
-roomy_low c x h =
-    ⊎_elim (λ (l : c < 32). l) (λ (l : 32 ≤ c). let e : cond (ltb c 32) x 0 ≡ 0 = ap (λ b. cond b x 0) (le-ltb c 32 l) in absurd (omega (arith, e, h))) (cases_lt c 32)
-
-pub roomy_has : (c x : ℕ) → 1 ≤ cond (ltb c 32) x 0 → 1 ≤ x
-roomy_has c x h = let e = low_at c x 0 (roomy_low c x h) in omega (arith, e, h)
-
-pub cond_le : (b : Bool) (x y z : ℕ) → x ≤ y + z → cond b x 0 ≤ cond b y 0 + z
+cond_le : (b : Bool) (x y z : ℕ) → x ≤ y + z → cond b x 0 ≤ cond b y 0 + z
 cond_le true x y z h = h
 cond_le false x y z h = omega arith
 

@@ -4,12 +4,12 @@ use Rattle.std.proofs.Common.{ap}
 use Rattle.std.proofs.lemmas.Bool.{le-ltb}
 use Rattle.model.specs.Mailbox.{MailboxKind}
 use Rattle.mailbox.specs.Contract.{Bounded, together}
-use Rattle.mailbox.specs.Entries.{chosen}
+use Rattle.mailbox.specs.Entries.{chosen, listed}
 use Rattle.mailbox.specs.declared.pool.Pool.{Pool}
 
 module _ {T : Type 0} where
   abbrev pub pool_waiting : Pool T → ℕ → List T
-  pool_waiting b c = cond (nat_lt c 32) (chosen c (take b.count b.memory.now)) []
+  pool_waiting b c = listed (take b.count b.memory.now) c
 
   -- The room of a pool, the same under every number: its memory less all that wait.
   abbrev pub pool_room : Pool T → ℕ → ℕ

@@ -3,9 +3,6 @@ ghost use Rattle.std.specs.Prelude.{◌≡◌, ℕ, length};
 ghost use Rattle.model.specs.Mailbox.{MailboxKind};
 ghost use Rattle.mailbox.specs.Contract.{Bounded, PutAnswer, TakeAnswer};
 
-// How many object numbers have a list: 0 to 31.
-pub const CHANNELS: usize = 32;
-
 pub trait Mailbox {
     type Message: Copy;
 
@@ -23,7 +20,8 @@ pub trait Mailbox {
     fn room(&self, channel: usize) -> usize
         ensures { result ≡ kind.room self.now channel };
 
-    // Joins a message to the end of the channel's list if there is room; answers whether there was.
+    // Joins a message to the end of the channel's list if there is room; answers whether there was. A bool, since a put
+    // answers whether it was taken, and nothing else can be wrong with it.
     fn put(&mut self, channel: usize, message: Self::Message) -> bool
         ensures { PutAnswer kind self.old channel message result self.new };
 

@@ -1,17 +1,18 @@
 // Lanes in lent memory.
-ghost use Rattle.std.specs.Prelude.{◌≡◌, ℕ, ◌/◌, ◌<◌, ◌≤◌, length, slice_index};
+ghost use Rattle.std.specs.Prelude.{◌≡◌, ◌/◌, length};
+ghost use Rattle.std.specs.List.{All};
+ghost use Rattle.mailbox.specs.Ring.{Within};
 
-use crate::kind::CHANNELS;
+use crate::channel::CHANNELS;
+use crate::ring::Ring;
 
-// The caller's memory in 32 equal lanes, one for each object number. A lane is a ring: `heads` has the place of
-// its first message and `counts` how many messages wait there.
+// The caller's memory in 32 equal lanes, one for each object number, each read as a ring.
 #[derive(Drop)]
 pub struct Lanes<'a, T: Copy> {
     pub(crate) memory: &'a mut [T],
     pub(crate) size: usize,
-    pub(crate) heads: [usize; CHANNELS],
-    pub(crate) counts: [usize; CHANNELS],
+    pub(crate) rings: [Ring; CHANNELS],
     ghost cut: { size ≡ length memory.now / 32 },
-    ghost starts: { ((k : ℕ) → k < 32 → slice_index heads k ≤ size) },
-    ghost fills: { ((k : ℕ) → k < 32 → slice_index counts k ≤ size) },
+    ghost each: { length rings ≡ 32 },
+    ghost inside: { All (Within size) rings },
 }

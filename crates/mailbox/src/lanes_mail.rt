@@ -1,13 +1,13 @@
 // Messages in lanes.
-ghost use Rattle.std.specs.Prelude.{◌≡◌, ℕ, ◌+◌, ◌/◌, ◌<◌, ◌≤◌, [], length, slice_index};
-ghost use Rattle.model.specs.Mailbox.{Put, Take};
-ghost use Rattle.mailbox.specs.Contract.{PutAnswer, TakeAnswer};
+ghost use Rattle.std.specs.Prelude.{◌≡◌, ℕ, ◌+◌, ◌*◌, ◌/◌, ◌<◌, ◌≤◌, [], length};
+ghost use Rattle.model.specs.Mailbox.{Put};
+ghost use Rattle.mailbox.specs.Contract.{TakeAnswer};
 ghost use Rattle.mailbox.specs.LaneLists.{lanes_waiting, lanes_room, lanes_kind, lanes_bounded};
-ghost use Rattle.mailbox.specs.Ring.{around};
 
-use crate::kind::{CHANNELS, Mailbox};
+use crate::channel::{CHANNELS, Channel};
 use crate::lanes::Lanes;
-use crate::places::{in_memory, place_after, zeros};
+use crate::lists::Lists;
+use crate::ring::Ring;
 
 impl<'a, T: Copy> Lanes<'a, T> {
     // Lanes with every list empty, whatever the memory holds.
@@ -20,102 +20,60 @@ impl<'a, T: Copy> Lanes<'a, T> {
         Lanes {
             memory,
             size,
-            heads: zeros(),
-            counts: zeros(),
+            rings: Ring::empty(),
         }
     }
 
-    // How many messages wait in a lane.
-    fn count(&self, channel: usize) -> usize
-        requires { channel < 32 }
-        ensures size { result ≤ self.now.size }
-        ensures count { result ≡ length (lanes_waiting self.now channel) }
+    // Where in the memory a place of a channel's lane is.
+    fn index(&self, channel: Channel, place: usize) -> usize
+        requires { place < self.now.size }
+        ensures inside { result < length self.now.memory.now }
+        ensures place { result ≡ channel.number * self.now.size + place }
     {
-        self.counts[channel]
-    }
-
-    // The place in its lane of a channel's first message.
-    fn first_place(&self, channel: usize) -> usize
-        requires { channel < 32 }
-        ensures { result ≡ around self.now.size (slice_index self.now.heads channel) 0 }
-    {
-        place_after(self.size, self.heads[channel], 0)
-    }
-
-    // The place in its lane of a channel's next message.
-    fn next_place(&self, channel: usize) -> usize
-        requires { channel < 32 }
-        ensures { result ≡ around self.now.size (slice_index self.now.heads channel) (slice_index self.now.counts channel) }
-    {
-        place_after(self.size, self.heads[channel], self.counts[channel])
-    }
-
-    // Joins a message to the end of a channel's list, which has room.
-    fn join(&mut self, channel: usize, message: T)
-        requires { 1 ≤ lanes_room self.old channel }
-        ensures put { Put lanes_kind self.old channel message self.new }
-        ensures memory { length self.new.memory.now ≡ length self.old.memory.now }
-    {
-        let place = self.next_place(channel);
-        let i = in_memory(self.size, channel, place);
-        self.memory[i] = message;
-        self.counts[channel] += 1;
-    }
-
-    // Removes the first message of a channel's list, which is not empty.
-    fn leave(&mut self, channel: usize) -> T
-        requires { 1 ≤ length (lanes_waiting self.old channel) }
-        ensures taken { Take lanes_kind self.old channel result self.new }
-        ensures memory { length self.new.memory.now ≡ length self.old.memory.now }
-    {
-        let place = self.first_place(channel);
-        let i = in_memory(self.size, channel, place);
-        let message = self.memory[i];
-        self.heads[channel] = place + 1;
-        self.counts[channel] -= 1;
-        message
+        channel.number * self.size + place
     }
 }
 
-impl<'a, T: Copy> Mailbox for Lanes<'a, T> {
+impl<'a, T: Copy> Lists for Lanes<'a, T> {
     type Message = T;
 
     ghost kind = { lanes_kind };
 
     ghost bounded = { lanes_bounded };
 
-    fn len(&self, channel: usize) -> usize {
-        if channel >= CHANNELS {
-            return 0;
-        }
-        self.count(channel)
+    ghost lent = { λ b. length b.memory.now };
+
+    #[tactic(auto, using(crate::proofs::Rings::count_is))]
+    fn waiting(&self, channel: Channel) -> usize {
+        self.rings[channel.number].count
     }
 
-    fn room(&self, channel: usize) -> usize {
-        if channel >= CHANNELS {
-            return 0;
-        }
-        self.size - self.count(channel)
+    #[tactic(auto, using(crate::proofs::Rings::room_is))]
+    fn free(&self, channel: Channel) -> usize {
+        self.size - self.rings[channel.number].count
     }
 
-    fn put(&mut self, channel: usize, message: T) -> bool
-        ensures answer { PutAnswer lanes_kind self.old channel message result self.new }
-        ensures memory { length self.new.memory.now ≡ length self.old.memory.now }
-    {
-        if self.room(channel) == 0 {
-            return false;
-        }
-        self.join(channel, message);
-        true
+    #[tactic(auto, using(crate::proofs::Rings::room_is))]
+    fn join(&mut self, channel: Channel, message: T) {
+        let ring = self.rings[channel.number];
+        let place = ring.next_place(self.size);
+        let i = self.index(channel, place);
+        self.memory[i] = message;
+        self.rings[channel.number].count += 1;
     }
 
-    fn take(&mut self, channel: usize) -> Option<T>
-        ensures answer { TakeAnswer lanes_kind self.old channel result self.new }
-        ensures memory { length self.new.memory.now ≡ length self.old.memory.now }
-    {
-        if self.len(channel) == 0 {
+    fn leave(&mut self, channel: Channel) -> Option<T> {
+        let ring = self.rings[channel.number];
+        if ring.count == 0 {
             return None;
         }
-        Some(self.leave(channel))
+        let place = ring.first_place(self.size);
+        let i = self.index(channel, place);
+        let message = self.memory[i];
+        self.rings[channel.number] = Ring {
+            head: place + 1,
+            count: ring.count - 1,
+        };
+        Some(message)
     }
 }

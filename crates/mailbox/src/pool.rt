@@ -1,6 +1,6 @@
 // A pool in lent memory.
-ghost use Rattle.std.specs.Prelude.{◌≤◌, length};
-ghost use Rattle.mailbox.specs.Entries.{Filed};
+ghost use Rattle.std.specs.Prelude.{◌≤◌, ◌<◌, length, take};
+ghost use Rattle.std.specs.List.{All};
 
 use crate::entry::Entry;
 
@@ -10,5 +10,5 @@ pub struct Pool<'a, T: Copy> {
     pub(crate) memory: &'a mut [Entry<T>],
     pub(crate) count: usize,
     ghost fits: { count ≤ length memory.now },
-    ghost filed: { Filed count memory.now },
+    ghost filed: { All (λ e. e.channel < 32) (take count memory.now) },
 }

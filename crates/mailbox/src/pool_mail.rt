@@ -1,44 +1,18 @@
 // Messages in a pool.
-ghost use Rattle.std.specs.Prelude.{◌≡◌, ℕ, ◌-◌, ◌<◌, ◌≤◌, [], length, take, MatchOption};
-ghost use Rattle.std.specs.List.{remove};
+ghost use Rattle.std.specs.Prelude.{◌≡◌, ℕ, ◌<◌, ◌≤◌, [], length, take, ◌==◌, Some};
+ghost use Rattle.std.specs.List.{count_by, position};
 ghost use Rattle.model.specs.Mailbox.{Put, Take};
-ghost use Rattle.mailbox.specs.Contract.{PutAnswer, TakeAnswer, together};
-ghost use Rattle.mailbox.specs.Entries.{chosen, First};
+ghost use Rattle.mailbox.specs.Contract.{TakeAnswer};
 ghost use Rattle.mailbox.specs.PoolLists.{pool_waiting, pool_room, pool_kind, pool_bounded};
 
+use crate::channel::Channel;
 use crate::entry::Entry;
-use crate::kind::{CHANNELS, Mailbox};
+use crate::lists::Lists;
 use crate::pool::Pool;
-
-// How many of the first entries are of a channel.
-fn count_of<T: Copy>(entries: &[Entry<T>], count: usize, channel: usize) -> usize
-    requires { count ≤ length entries.now }
-    ensures { result ≡ length (chosen channel (take count entries.now)) }
-{
-    let mut n: usize = 0;
-    for i in 0..count {
-        if entries[i].channel == channel {
-            n += 1;
-        }
-    }
-    n
-}
-
-// The place of the first of the first entries that is of a channel.
-fn first_of<T: Copy>(entries: &[Entry<T>], count: usize, channel: usize) -> Option<usize>
-    requires { count ≤ length entries.now }
-    ensures { MatchOption result (chosen channel (take count entries.now) ≡ []) (λ place. First channel count entries.now place) }
-{
-    for i in 0..count {
-        if entries[i].channel == channel {
-            return Some(i);
-        }
-    }
-    None
-}
 
 impl<'a, T: Copy> Pool<'a, T> {
     // A pool with every list empty, whatever the memory holds.
+    #[tactic(auto, using(crate::proofs::Arrivals::room_at_first))]
     pub fn new(memory: &'a mut [Entry<T>]) -> Pool<'a, T>
         ensures lists { (c : ℕ) → pool_waiting result c ≡ [] }
         ensures rooms { (c : ℕ) → c < 32 → pool_room result c ≡ length memory.old }
@@ -55,100 +29,66 @@ impl<'a, T: Copy> Pool<'a, T> {
         Pool { memory, count: 0 }
     }
 
-    // How many entries are free.
-    fn free(&self) -> usize
-        ensures { result ≡ length self.now.memory.now - together (λ d. pool_waiting self.now d) }
+    // How many entries are of a channel.
+    fn count_of(&self, channel: usize) -> usize
+        ensures { result ≡ count_by (λ e. e.channel == channel) (take self.now.count self.now.memory.now) }
     {
-        self.memory.len() - self.count
+        let entries = &self.memory[..self.count];
+        entries.iter().filter(|e| e.channel == channel).count()
     }
 
-    // The place of the first message of a channel.
-    fn find(&self, channel: usize) -> Option<usize>
-        ensures { MatchOption result (chosen channel (take self.now.count self.now.memory.now) ≡ []) (λ place. First channel self.now.count self.now.memory.now place) }
+    // The place of the first entry that is of a channel.
+    fn first_of(&self, channel: usize) -> Option<usize>
+        ensures { result ≡ position (λ e. e.channel == channel) (take self.now.count self.now.memory.now) }
     {
-        first_of(self.memory, self.count, channel)
+        let entries = &self.memory[..self.count];
+        entries.iter().position(|e| e.channel == channel)
     }
 
-    // Joins a message to the end of a channel's list, which has room.
-    fn join(&mut self, channel: usize, message: T)
-        requires { 1 ≤ pool_room self.old channel }
-        ensures put { Put pool_kind self.old channel message self.new }
-        ensures memory { length self.new.memory.now ≡ length self.old.memory.now }
-    {
-        let place = self.count;
-        self.memory[place] = Entry { channel, message };
-        self.count = place + 1;
-    }
-
-    // The entries after a place move up by one, over the one that stood there.
-    fn close_gap(&mut self, place: usize)
-        requires { place < self.old.count }
-        ensures count { self.new.count ≡ self.old.count - 1 }
-        ensures size { length self.new.memory.now ≡ length self.old.memory.now }
-        ensures items { take (self.old.count - 1) self.new.memory.now ≡ take (self.old.count - 1) (remove self.old.memory.now place) }
-    {
-        let last = self.count - 1;
-        for i in place..last {
-            let entry = self.memory[i + 1];
-            self.memory[i] = entry;
-        }
-        self.count = last;
-    }
-
-    // Removes the entry at a place, the first of its channel.
-    fn leave(&mut self, channel: usize, place: usize) -> T
-        requires { (channel < 32) × (First channel self.old.count self.old.memory.now place) }
-        ensures taken { Take pool_kind self.old channel result self.new }
+    // Removes the entry at a place, the first of its channel; the entries after it move up by one.
+    fn remove(&mut self, channel: Channel, place: usize) -> T
+        requires { Some place ≡ position (λ e. e.channel == channel.number) (take self.old.count self.old.memory.now) }
+        ensures taken { Take pool_kind self.old channel.number result self.new }
         ensures memory { length self.new.memory.now ≡ length self.old.memory.now }
     {
         let message = self.memory[place].message;
-        self.close_gap(place);
+        self.memory[..self.count].copy_within(place + 1.., place);
+        self.count -= 1;
         message
     }
 }
 
-impl<'a, T: Copy> Mailbox for Pool<'a, T> {
+impl<'a, T: Copy> Lists for Pool<'a, T> {
     type Message = T;
 
     ghost kind = { pool_kind };
 
     ghost bounded = { pool_bounded };
 
-    fn len(&self, channel: usize) -> usize {
-        if channel >= CHANNELS {
-            return 0;
-        }
-        count_of(self.memory, self.count, channel)
+    ghost lent = { λ b. length b.memory.now };
+
+    #[tactic(auto, using(crate::proofs::Arrivals::count_is))]
+    fn waiting(&self, channel: Channel) -> usize {
+        self.count_of(channel.number)
     }
 
-    fn room(&self, channel: usize) -> usize {
-        if channel >= CHANNELS {
-            return 0;
-        }
-        self.free()
+    // The room of a pool is the same under every number.
+    #[tactic(auto, using(crate::proofs::Arrivals::room_is))]
+    fn free(&self, _channel: Channel) -> usize {
+        self.memory.len() - self.count
     }
 
-    fn put(&mut self, channel: usize, message: T) -> bool
-        ensures answer { PutAnswer pool_kind self.old channel message result self.new }
-        ensures memory { length self.new.memory.now ≡ length self.old.memory.now }
-    {
-        if self.room(channel) == 0 {
-            return false;
-        }
-        self.join(channel, message);
-        true
+    #[tactic(auto, using(crate::proofs::Arrivals::room_is))]
+    fn join(&mut self, channel: Channel, message: T) {
+        self.memory[self.count] = Entry {
+            channel: channel.number,
+            message,
+        };
+        self.count += 1;
     }
 
-    fn take(&mut self, channel: usize) -> Option<T>
-        ensures answer { TakeAnswer pool_kind self.old channel result self.new }
-        ensures memory { length self.new.memory.now ≡ length self.old.memory.now }
-    {
-        if channel >= CHANNELS {
-            return None;
-        }
-        match self.find(channel) {
-            Some(place) => Some(self.leave(channel, place)),
-            None => None,
-        }
+    fn leave(&mut self, channel: Channel) -> Option<T> {
+        let place = self.first_of(channel.number)?;
+        Some(self.remove(channel, place))
     }
 }

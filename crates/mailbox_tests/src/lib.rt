@@ -36,35 +36,20 @@ pub fn take_both<A1: Mailbox, B1: Mailbox<Message = A1::Message>>(
 
 // Whether every number has the same length in two mailboxes.
 pub fn same_lengths<A1: Mailbox, B1: Mailbox>(a: &A1, b: &B1) -> bool {
-    for channel in 0..CHANNELS {
-        if a.len(channel) != b.len(channel) {
-            return false;
-        }
-    }
-    true
+    (0..CHANNELS).all(|channel| a.len(channel) == b.len(channel))
 }
 
 // Whether nothing waits under any number.
 pub fn is_empty<M1: Mailbox>(mailbox: &M1) -> bool {
-    for channel in 0..CHANNELS {
-        if mailbox.len(channel) != 0 {
-            return false;
-        }
-    }
-    true
+    (0..CHANNELS).all(|channel| mailbox.len(channel) == 0)
 }
 
 // Whether a mailbox has this room under every number.
 pub fn has_room<M1: Mailbox>(mailbox: &M1, room: usize) -> bool {
-    for channel in 0..CHANNELS {
-        if mailbox.room(channel) != room {
-            return false;
-        }
-    }
-    true
+    (0..CHANNELS).all(|channel| mailbox.room(channel) == room)
 }
 
-// A call to a mailbox of words, with the answer that is expected.
+// A call to a mailbox of words, with the answer that is expected. Fields by place, since a test reads as a table of calls.
 #[derive(Clone, Copy)]
 pub enum Call {
     Put(usize, u16, bool),
@@ -85,12 +70,7 @@ pub fn answers<M1: Mailbox<Message = u16>>(mailbox: &mut M1, call: Call) -> bool
 
 // Makes the calls in turn; whether each answer is the expected one.
 pub fn plays<M1: Mailbox<Message = u16>>(mailbox: &mut M1, calls: &[Call]) -> bool {
-    for call in calls {
-        if !answers(mailbox, *call) {
-            return false;
-        }
-    }
-    true
+    calls.iter().all(|call| answers(mailbox, *call))
 }
 
 // Takes all that waits under every number; whether both mailboxes give the same messages in the same order.
@@ -98,15 +78,13 @@ pub fn drain_alike<A1: Mailbox<Message = u16>, B1: Mailbox<Message = u16>>(
     a: &mut A1,
     b: &mut B1,
 ) -> bool {
-    for channel in 0..CHANNELS {
-        for _i in 0..a.len(channel) {
+    let alike = (0..CHANNELS).all(|channel| {
+        (0..a.len(channel)).all(|_| {
             let (first, second) = take_both(a, b, channel);
-            if first != second {
-                return false;
-            }
-        }
-    }
-    is_empty(a) && is_empty(b)
+            first == second
+        })
+    });
+    alike && is_empty(a) && is_empty(b)
 }
 
 #[cfg(test)]

@@ -1,26 +1,16 @@
-use Rattle.std.proofs.Common.{◌-◌, ◌/◌, length, refl, ap, ◌∙◌, arith}
-use Rattle.mailbox.proofs.Rooms.{low_at}
-use Rattle.mailbox.proofs.Rings.{all_zero, waits-none}
-use Rattle.mailbox.specs.Ring.{waits}
+use Rattle.std.proofs.Common.{◌/◌, length, arith}
+use Rattle.std.proofs.lemmas.List.Elements.{All-same, All-replicate}
+use Rattle.mailbox.specs.Ring.{no_messages, Within}
+use Rattle.mailbox.proofs.Rings.{none_waits, room_at_first}
 use Rattle.mailbox.proofs.lanes.Lanes.new.Goals as goal
 
-pub invariant_of-result : goal.invariant_of-result
-invariant_of-result g c = record {
-  cut = refl;
-  starts = λ k h. let z = all_zero c.zeros.result c.zeros.ensures k in omega (arith, z);
-  fills = λ k h. let z = all_zero c.zeros-2.result c.zeros-2.ensures k in omega (arith, z);
-}
+pub invariant_of-result-clause-inside : goal.invariant_of-result-clause-inside
+invariant_of-result-clause-inside g c =
+    let size = length c.args.memory.now / 32 in
+    All-same (Within size) _ _ c.empty.ensures (All-replicate (Within size) 32 no_messages (omega arith, omega arith))
 
-pub returns : goal.returns
-returns g c =
-    let xs = c.args.memory.now in
-    let n = length xs / 32 in
-    let heads = c.zeros.result in
-    let counts = c.zeros-2.result in
-    record {
-      lists = λ k. waits-none xs n heads counts k (all_zero counts c.zeros-2.ensures k);
-      rooms = λ k h.
-          let z = ap length (waits-none xs n heads counts k (all_zero counts c.zeros-2.ensures k)) in
-          low_at k (n - length (waits xs n heads counts k)) 0 h ∙ omega (arith, z);
-      memory = refl;
-    }
+pub returns-clause-lists : goal.returns-clause-lists
+returns-clause-lists g c k = none_waits c.args.memory.now (length c.args.memory.now / 32) c.empty.result c.empty.ensures k
+
+pub returns-clause-rooms : goal.returns-clause-rooms
+returns-clause-rooms g c k low = room_at_first c.args.memory.now (length c.args.memory.now / 32) c.empty.result c.empty.ensures k low
