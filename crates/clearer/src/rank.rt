@@ -3,7 +3,8 @@ ghost use Rattle.std.specs.Prelude.{◌≡◌, int_lt};
 ghost use Rattle.clearer.specs.Orders.{rank_level, rank_written};
 ghost use Rattle.std.proofs.Common.{rules};
 
-use records::{Range, WaitOrder, WrittenOrder};
+use records::{WaitOrder, WrittenOrder};
+use text::Range;
 
 pub struct Rank;
 
@@ -31,16 +32,16 @@ impl WaitOrder for Rank {
 impl WrittenOrder for Rank {
     const FIELDS: usize = 1;
 
+    ghost FIELDS = { 1 };
+
     ghost written = { rank_written };
+
+    ghost counted = { Prim.search rules };
 
     ghost one_or_two = { Prim.search rules };
 
     fn header_word() -> [u8; 4] {
         *b"RANK"
-    }
-
-    fn field_count() -> usize {
-        Self::FIELDS
     }
 
     fn first_range() -> Range {

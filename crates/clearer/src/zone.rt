@@ -4,7 +4,8 @@ ghost use Rattle.clearer.specs.Orders.{zone_below, zone_level, zone_written};
 ghost use Rattle.std.proofs.Common.{rules};
 
 use crate::level::ZoneLevel;
-use records::{Range, WaitOrder, WrittenOrder};
+use records::{WaitOrder, WrittenOrder};
+use text::Range;
 
 pub struct Zone;
 
@@ -35,16 +36,16 @@ impl WaitOrder for Zone {
 impl WrittenOrder for Zone {
     const FIELDS: usize = 2;
 
+    ghost FIELDS = { 2 };
+
     ghost written = { zone_written };
+
+    ghost counted = { Prim.search rules };
 
     ghost one_or_two = { Prim.search rules };
 
     fn header_word() -> [u8; 4] {
         *b"ZONE"
-    }
-
-    fn field_count() -> usize {
-        Self::FIELDS
     }
 
     fn first_range() -> Range {

@@ -1,5 +1,5 @@
 -- What the check of a sheet leaves true of its records, and that it leaves it true in one way.
-use Rattle.std.proofs.Common.{◌≡◌, ℕ, ◌+◌, ◌-◌, ◌<◌, ◌≤◌, Bool, true, false, cond, eqb, List, [], ◌∷◌, ◌++◌, length, get_or, take, drop, replicate, ℤ, pos, negsuc, ◌≤ℤ◌, Ok, Err, sym, refl, ap, ◌∙◌, subst, ⊎_elim, arith}
+use Rattle.std.proofs.Common.{◌||◌, ◌≡◌, ℕ, ◌+◌, ◌-◌, ◌<◌, ◌≤◌, Bool, true, false, cond, eqb, List, [], ◌∷◌, ◌++◌, length, get_or, take, drop, replicate, ℤ, pos, negsuc, ◌≤ℤ◌, Ok, Err, sym, refl, ap, ◌∙◌, subst, ⊎_elim, arith}
 use mathlib.Core.Bool.{Bool-set}
 use mathlib.Core.HLevel.{×_prop, ×₃_prop, →_prop, ⊥_prop}
 use mathlib.Core.Logic.{∥∥₁_elim}
@@ -46,7 +46,7 @@ started-at rs m (t ∷ ts) u e k h l =
 some_left : {A : Type 0} (p : A → Bool) (xs ys : List A) → some p xs ≡ true → some p (xs ++ ys) ≡ true
 some_left p [] ys e = absurd (false≢true e)
 some_left p (x ∷ xs) ys e =
-    (elim (p x) as (λ b. cond b true (some p xs) ≡ true → cond b true (some p (xs ++ ys)) ≡ true) [ true ↦ λ f. refl | false ↦ λ f. some_left p xs ys f ]) e
+    (elim (p x) as (λ b. (b || some p xs) ≡ true → (b || some p (xs ++ ys)) ≡ true) [ true ↦ λ f. refl | false ↦ λ f. some_left p xs ys f ]) e
 
 good_blanks : (rs : List Record) (n : ℕ) → ((i : ℕ) → i < length rs → Good (take i rs) (get_or rs i blank))
     → (i : ℕ) → i < length (rs ++ replicate n blank) → ((get_or (rs ++ replicate n blank) i blank).letter ≡ 0 → ⊥) → Good (take i (rs ++ replicate n blank)) (get_or (rs ++ replicate n blank) i blank)

@@ -6,7 +6,7 @@ use Rattle.std.proofs.lemmas.List.{length-map, length-take-le}
 use Rattle.std.proofs.lemmas.Bool.{and_parts, eqb-true, false≢true}
 use Rattle.records.specs.declared.fault.Cause.{Cause}
 use Rattle.records.specs.declared.fault.Cause.TheVariants.{Form, Unknown}
-use Rattle.records.specs.declared.range.Range.{Range}
+use Rattle.text.specs.declared.range.Range.{Range}
 use Rattle.records.specs.declared.record.Record.{Record}
 use Rattle.records.specs.declared.rows.Kind.{Kind}
 use Rattle.records.specs.declared.rows.Kind.TheVariants.{Channel, Lock}
@@ -76,8 +76,8 @@ not_zero_lem (negsuc m) e h = let n : ◌≡◌ {A = ℕ} 0 1 = cc in omega arit
 module _ (text : List ℕ) (rs : List Record) where
   object-below : (p : Place) (x : ℕ) → object_named (before text rs) p ≡ Some x → x < length (objects_of rs)
   object-below p x e =
-      let places : List (ℕ × ℕ) = map (λ (o : ObjectRow). (o.start, o.size)) (objects_of rs) in
-      omega (arith, first_below (named text (bytes_at text p)) places 0 x e, length-map {B = ℕ × ℕ} (objects_of rs) (λ (o : ObjectRow). (o.start, o.size)))
+      let places : List (ℕ × ℕ) = map (λ (o : ObjectRow). (o.name.start, o.name.size)) (objects_of rs) in
+      omega (arith, first_below (named text (bytes_at text p)) places 0 x e, length-map {B = ℕ × ℕ} (objects_of rs) (λ (o : ObjectRow). (o.name.start, o.name.size)))
 
   channel_used : (p : Place) (x : ℕ) → object_of (before text rs) Channel p ≡ Ok x → Uses rs true x
   channel_used p x e =
@@ -93,12 +93,12 @@ module _ (text : List ℕ) (rs : List Record) where
   above-below p x e =
       let n = length (tasks_of rs) - 1 in
       let rows = take n (tasks_of rs) in
-      let places : List (ℕ × ℕ) = map (λ (t : TaskRow). (t.start, t.size)) rows in
+      let places : List (ℕ × ℕ) = map (λ (t : TaskRow). (t.name.start, t.name.size)) rows in
       let found = option_ok (task_named rows (before text rs) p) Unknown x e in
       omega (
         arith,
         first_below (named text (bytes_at text p)) places 0 x found,
-        length-map {B = ℕ × ℕ} rows (λ (t : TaskRow). (t.start, t.size)),
+        length-map {B = ℕ × ℕ} rows (λ (t : TaskRow). (t.name.start, t.name.size)),
         length-take-le n (tasks_of rs) (omega arith),
       )
 

@@ -1,5 +1,5 @@
 -- The sections of a text: an operation stands among the operations of a task.
-use Rattle.std.proofs.Common.{◌≡◌, ℕ, zero, suc, ◌+◌, ◌-◌, ◌<◌, Bool, true, false, cond, eqb, ◌⊎◌, List, [], ◌∷◌, length, get_or, take, drop, codes, sym, refl, ap, ◌∙◌, subst, inl, inr, ⊎_elim, arith}
+use Rattle.std.proofs.Common.{◌||◌, ◌≡◌, ℕ, zero, suc, ◌+◌, ◌-◌, ◌<◌, Bool, true, false, cond, eqb, ◌⊎◌, List, [], ◌∷◌, length, get_or, take, drop, codes, sym, refl, ap, ◌∙◌, subst, inl, inr, ⊎_elim, arith}
 use Rattle.std.specs.List.{prefix_len, AllByRecursion as All}
 use Rattle.std.proofs.lemmas.List.{get_or-drop, get_or-take, length-drop, length-take-le}
 use Rattle.std.proofs.lemmas.List.Sums.{prefix_len-drop_no, prefix_len-drop_yes}
@@ -21,7 +21,7 @@ no e = absurd (false≢true e)
 pub one_of_lem : (P : ℕ → Type 0) (c : ℕ) (cs : List ℕ) → All P cs → one_of c cs ≡ true → P c
 one_of_lem P c [] a e = no e
 one_of_lem P c (x ∷ xs) a e =
-    (elim (eqb c x) as (λ b. eqb c x ≡ b → cond b true (one_of c xs) ≡ true → P c) [
+    (elim (eqb c x) as (λ b. eqb c x ≡ b → (b || one_of c xs) ≡ true → P c) [
       | true ↦ λ h f. subst P (sym (eqb-true c x h)) a.0
       | false ↦ λ h f. one_of_lem P c xs a.1 f
     ]) refl e

@@ -1,5 +1,5 @@
 -- The program that checked records mean is sound, and within the limits of a text.
-use Rattle.std.proofs.Common.{◌≡◌, ℕ, zero, suc, ◌-◌, ◌<◌, Bool, true, false, cond, T, eqb, List, [], ◌∷◌, map, length, get_or, take, drop, ℤ, codes, sym, refl, ap, ◌∙◌, subst, arith}
+use Rattle.std.proofs.Common.{◌||◌, ◌≡◌, ℕ, zero, suc, ◌-◌, ◌<◌, Bool, true, false, cond, T, eqb, List, [], ◌∷◌, map, length, get_or, take, drop, ℤ, codes, sym, refl, ap, ◌∙◌, subst, arith}
 use Rattle.std.proofs.lemmas.Bool.{and_parts, eqb-true}
 use Rattle.model.specs.Program.{Op, Within, acquire, operation, receive, release, send, start, step_at}
 use Rattle.model.specs.Threads.{Sound}
@@ -65,7 +65,7 @@ start-op r e =
 some_at : {A : Type 0} (p : A → Bool) (d : A) (xs : List A) → some p xs ≡ true → (i : ℕ) × (i < length xs) × (p (get_or xs i d) ≡ true)
 some_at p d [] e = no e
 some_at p d (x ∷ xs) e =
-    (elim (p x) as (λ b. p x ≡ b → cond b true (some p xs) ≡ true → (i : ℕ) × (i < suc (length xs)) × (p (get_or (x ∷ xs) i d) ≡ true)) [
+    (elim (p x) as (λ b. p x ≡ b → (b || some p xs) ≡ true → (i : ℕ) × (i < suc (length xs)) × (p (get_or (x ∷ xs) i d) ≡ true)) [
       | true ↦ λ h f. (0, omega arith, h)
       | false ↦ λ h f. let r = some_at p d xs f in (suc r.0, omega (arith, r.1), r.2)
     ]) refl e

@@ -8,7 +8,7 @@ use Rattle.records.specs.declared.rows.ObjectRow.{ObjectRow}
 use Rattle.records.specs.declared.rows.TaskRow.{TaskRow}
 use Rattle.tasks.specs.Records.{no_task, objects_of, tasks_of}
 use Rattle.tasks.specs.Threads.{body_of, counts_of, first_operation}
-use Rattle.text.specs.Text.{byte}
+use Rattle.text.specs.Text.{byte, nowhere}
 
 -- a plain number that is not below zero, as a word and a count of credits are
 abbrev pub natural : ℤ → ℕ
@@ -29,7 +29,7 @@ is_channel Channel = true
 is_channel Lock = false
 
 abbrev pub no_object : ObjectRow
-no_object = record { start = 0; size = 0; kind = Channel; number = pos 0; extra = pos 0 }
+no_object = record { name = nowhere; kind = Channel; number = pos 0; extra = pos 0 }
 
 -- How many credits of channel d each message on channel c carries: what the W line of the pair says, and else none.
 abbrev pub carried_by : List Record → ℕ → ℕ → ℕ

@@ -2,14 +2,13 @@
 ghost use Rattle.std.specs.Prelude.{◌≡◌, ℕ, ◌≤◌, length};
 ghost use Rattle.std.specs.List.{slice_get};
 ghost use Rattle.reader.specs.Reading.{reading, Shows};
-ghost use Rattle.tasks.specs.Crew.{thread_list};
 ghost use Rattle.plan.specs.Made.{Made};
 ghost use Rattle.plan.specs.Meaning.{Meant};
 ghost use Rattle.plan.specs.Plans.{WasRead, plan_threads, plan_moves, plan_sends};
 
 use records::limits::MOST_LINES;
 use records::{Record, WaitOrder, WrittenOrder};
-use tasks::{Lists, Threads};
+use tasks::{Lists, Tasks, Threads};
 
 // The text and the sheet that reading it gives, with the lists of its objects and tasks and the table of its threads,
 // made once, and its counts. It cannot be copied: a later stage is made from it and uses it up.
@@ -24,7 +23,7 @@ pub struct Plan<'a> {
     ghost read: { WasRead text.now sheet.now },
     ghost long: { 800 ≤ length sheet.now },
     ghost made: { ∥ Made lists threads sheet.now ∥₁ },
-    ghost count: { length (thread_list threads) ≡ length (plan_threads sheet.now) },
+    ghost crew: { threads ≡ plan_threads sheet.now },
     ghost counts: { (moves ≡ plan_moves sheet.now) × (sends ≡ plan_sends sheet.now) },
 }
 
@@ -35,23 +34,24 @@ impl<'a> Plan<'a> {
         ensures text { result.text.now ≡ text.now }
         ensures sheet { result.sheet.now ≡ sheet.now }
     {
-        let records = &sheet[0..MOST_LINES];
+        let records = &sheet[..MOST_LINES];
         let lists = Lists::of(records);
-        let tasks = lists.task_rows();
-        match Threads::of(records, tasks) {
-            Some(threads) => {
-                let moves = threads.moves(records, tasks);
-                let sends = threads.sends(records, tasks);
-                Plan {
-                    text,
-                    sheet,
-                    lists,
-                    threads,
-                    moves,
-                    sends,
-                }
-            }
-            None => unreachable(),
+        let tasks = Tasks {
+            records,
+            rows: lists.task_rows(),
+        };
+        let Some(threads) = Threads::of(&tasks) else {
+            unreachable!()
+        };
+        let moves = threads.moves(&tasks);
+        let sends = threads.sends(&tasks);
+        Plan {
+            text,
+            sheet,
+            lists,
+            threads,
+            moves,
+            sends,
         }
     }
 
@@ -80,12 +80,7 @@ impl<'a> Plan<'a> {
     pub fn task_of(&self, thread: usize) -> Option<usize>
         ensures { result ≡ slice_get (plan_threads self.now.sheet.now) thread }
     {
-        let rows = self.threads.rows();
-        if thread < rows.len() {
-            Some(rows[thread])
-        } else {
-            None
-        }
+        self.threads.rows().get(thread).copied()
     }
 
     // The operations of all threads, and one closing each.
@@ -104,9 +99,7 @@ impl<'a> Plan<'a> {
 
     // What the plan means under a wait order: a sound program by task, within the limits of a text, whose threads, moves
     // and sends are those that the plan counts.
-    pub fn meaning<O: WaitOrder>(&self) -> u8
+    pub fn meaning<O: WaitOrder>(&self)
         ensures { Meant O.WaitOrder.made self.now.sheet.now }
-    {
-        0
-    }
+    {}
 }
