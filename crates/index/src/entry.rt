@@ -1,7 +1,8 @@
 // The entry of a task.
 use records::limits::MOST_OBJECTS;
 
-#[derive(Clone, Copy)]
+// An entry of nothing is all zero.
+#[derive(Clone, Copy, Default)]
 pub struct TaskEntry {
     // its T line, from 1
     pub line: usize,
@@ -11,10 +12,3 @@ pub struct TaskEntry {
     // what it starts with on each channel
     pub opening: [i32; MOST_OBJECTS],
 }
-
-pub const NO_ENTRY: TaskEntry = TaskEntry {
-    line: 0,
-    first: 0,
-    operations: 0,
-    opening: [0; MOST_OBJECTS],
-};
