@@ -1,5 +1,5 @@
 -- The first line of a channel says what a task starts with on it.
-use Rattle.std.proofs.Common.{◌≡◌, ℕ, Bool, true, false, cond, eqb, List, [], ◌∷◌, ℤ, pos, refl, Option, None, Some}
+use Rattle.std.proofs.Common.{◌≡◌, ℕ, true, false, cond, eqb, List, [], ◌∷◌, ℤ, pos, refl, Option, None, Some}
 use Rattle.std.specs.List.{find}
 use Rattle.records.specs.declared.record.Record.{Record}
 use Rattle.index.specs.Amounts.{counted_on}

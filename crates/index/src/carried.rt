@@ -9,7 +9,7 @@ use records::limits::MOST_OBJECTS;
 fn note(amounts: &mut [i32; MOST_OBJECTS], channel: usize, amount: i32)
     ensures { (x : ℕ) → x < 32 → amount_in amounts.new x ≡ (if nat_eq channel x then amount else amount_in amounts.old x) }
 {
-    // Written by index: after a write through `get_mut`, nothing is known of the elements.
+    // By index: after a write through `get_mut` a proof knows no element.
     if channel < MOST_OBJECTS {
         amounts[channel] = amount;
     }
@@ -25,7 +25,7 @@ fn note_carried(rows: &mut [[i32; MOST_OBJECTS]; MOST_OBJECTS], row: Record)
 }
 
 // What a message on each channel carries of each channel. Of a pair the first W line counts, so the lines are gone
-// through from the last one up.
+// through from the last one up; a lookup for each of the 1024 pairs would go through them as often.
 pub(crate) fn carried_by(records: &[Record]) -> [[i32; MOST_OBJECTS]; MOST_OBJECTS]
     ensures { (c d : ℕ) → c < 32 → d < 32 → amount_at result c d ≡ pos (carried_by records.now c d) }
 {

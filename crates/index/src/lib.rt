@@ -4,7 +4,6 @@
 mod carried;
 mod entry;
 mod index;
-mod make;
 mod opening;
 
 pub use entry::TaskEntry;

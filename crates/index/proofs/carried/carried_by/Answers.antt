@@ -1,4 +1,4 @@
-use Rattle.std.proofs.Common.{[], length, drop, replicate, pos, sym, ap, ◌∙◌, append-nil, ◌++◌, ◌≡◌, arith}
+use Rattle.std.proofs.Common.{[], length, drop, replicate, pos, sym, ap, ◌∙◌, append-nil, ◌++◌, arith}
 use Rattle.std.proofs.lemmas.List.{drop_all, get_or-replicate}
 use Rattle.std.specs.Iterator.Adapters.{rev_source}
 use Rattle.std.specs.Slice.Iter.{iter_rest}
