@@ -1,2 +1,3 @@
-mod Tables
-pub mod Empties
+pub mod First
+pub mod Made
+pub mod Tables

@@ -1,30 +1,26 @@
--- What is left of the records, one more from the end.
-use Rattle.std.proofs.Common.{◌≡◌, ℕ, ◌+◌, ◌-◌, ◌<◌, ◌≤◌, Bool, true, false, cond, eqb, List, ◌∷◌, length, get_or, drop, ℤ, pos, sym, refl, ap, ◌∙◌, arith}
-use Rattle.std.proofs.lemmas.List.{drop_more}
+-- The records gone through from the last one up.
+use Rattle.std.proofs.Common.{◌≡◌, ℕ, Bool, true, false, cond, List, [], ◌∷◌, ◌++◌, length, drop, ℤ, pos, refl, sym, ap, ◌∙◌, append_assoc}
+use Rattle.std.proofs.Math.Seq.{drop-append_seam}
 use Rattle.records.specs.declared.record.Record.{Record}
-use Rattle.tasks.specs.Records.{blank}
-use Rattle.index.specs.Amounts.{carried_by, carries_of, counted_on, natural}
+use Rattle.index.specs.Amounts.{carried_by, carries_of, natural}
 
 pos_cond : (b : Bool) (m n : ℕ) → cond b (pos m) (pos n) ≡ pos (cond b m n)
 pos_cond true m n = refl
 pos_cond false m n = refl
 
-module _ (rs : List Record) (left : ℕ) (some : 0 < left) (inside : left ≤ length rs) where
-  one_more : drop (left - 1) rs ≡ get_or rs (left - 1) blank ∷ drop left rs
-  one_more =
-      let next : left - 1 + 1 ≡ left = omega arith in
-      drop_more rs (left - 1) blank (omega arith) ∙ ap (λ n. get_or rs (left - 1) blank ∷ drop n rs) next
+-- one record fewer is left
+module _ (all left more gone : List Record) (r : Record) (one : more ≡ left ++ r ∷ []) (whole : more ++ gone ≡ all) where
+  seam : left ++ r ∷ gone ≡ all
+  seam = sym (append_assoc left (r ∷ []) gone) ∙ ap (λ xs. xs ++ gone) (sym one) ∙ whole
 
-  -- the amounts with the record before what is left
-  pub carried_more : (c d : ℕ) (old new : ℤ) → old ≡ pos (carried_by (drop left rs) c d)
-      → new ≡ cond (carries_of (get_or rs (left - 1) blank) c d) (pos (natural (get_or rs (left - 1) blank).number)) old → new ≡ pos (carried_by (drop (left - 1) rs) c d)
-  carried_more c d old new was is =
-      let row = get_or rs (left - 1) blank in
-      is ∙ ap (λ z. cond (carries_of row c d) (pos (natural row.number)) z) was ∙ pos_cond (carries_of row c d) (natural row.number) (carried_by (drop left rs) c d)
-      ∙ ap (λ xs. pos (carried_by xs c d)) (sym one_more)
+  gone_more : drop (length left) all ≡ r ∷ gone
+  gone_more = ap (drop (length left)) (sym seam) ∙ drop-append_seam left (r ∷ gone)
 
-  pub counted_more : (x : ℕ) (old new : ℤ) → old ≡ counted_on (drop left rs) x
-      → new ≡ cond (eqb (get_or rs (left - 1) blank).first x) (get_or rs (left - 1) blank).number old → new ≡ counted_on (drop (left - 1) rs) x
-  counted_more x old new was is =
-      let row = get_or rs (left - 1) blank in
-      is ∙ ap (λ z. cond (eqb row.first x) row.number z) was ∙ ap (λ xs. counted_on xs x) (sym one_more)
+  pub left_less : left ++ drop (length left) all ≡ all
+  left_less = ap (λ xs. left ++ xs) gone_more ∙ seam
+
+  pub carried_more : (x y : ℕ) (old new : ℤ) → old ≡ pos (carried_by gone x y) → new ≡ cond (carries_of r x y) (pos (natural r.number)) old
+      → new ≡ pos (carried_by (drop (length left) all) x y)
+  carried_more x y old new was is =
+      is ∙ ap (λ z. cond (carries_of r x y) (pos (natural r.number)) z) was ∙ pos_cond (carries_of r x y) (natural r.number) (carried_by gone x y)
+      ∙ ap (λ xs. pos (carried_by xs x y)) (sym gone_more)

@@ -1,7 +1,15 @@
 // The entry of a task.
-use records::limits::MOST_OBJECTS;
+ghost use Rattle.std.specs.Prelude.{◌<◌, ◌≤◌, length, slice_index_or};
+ghost use Rattle.tasks.specs.Records.{no_task};
+ghost use Rattle.index.specs.Entries.{EmptyEntry, EntryOf};
 
-#[derive(Clone, Copy)]
+use crate::opening::counted_on;
+use records::limits::MOST_OBJECTS;
+use records::{Record, TaskRow};
+use tasks::{Tasks, leading_counts, leading_operations, rest};
+
+// An entry of nothing is all zero.
+#[derive(Clone, Copy, Default)]
 pub struct TaskEntry {
     // its T line, from 1
     pub line: usize,
@@ -12,9 +20,30 @@ pub struct TaskEntry {
     pub opening: [i32; MOST_OBJECTS],
 }
 
-pub const NO_ENTRY: TaskEntry = TaskEntry {
-    line: 0,
-    first: 0,
-    operations: 0,
-    opening: [0; MOST_OBJECTS],
-};
+impl TaskEntry {
+    // The entry of a task of these records.
+    pub fn of(records: &[Record], task: TaskRow) -> TaskEntry
+        ensures { EntryOf records.now task result }
+    {
+        let after = rest(records, task.line);
+        let counts = leading_counts(after);
+        TaskEntry {
+            line: task.line,
+            first: task.line + counts,
+            operations: leading_operations(rest(after, counts)),
+            opening: counted_on(&after[..counts]),
+        }
+    }
+
+    // The entry of the task with this number, and of nothing past the tasks.
+    pub(crate) fn numbered(tasks: &Tasks, k: usize) -> TaskEntry
+        ensures within { k < length tasks.now.rows.now → EntryOf tasks.now.records.now (slice_index_or tasks.now.rows.now k no_task) result }
+        ensures past { length tasks.now.rows.now ≤ k → EmptyEntry result }
+    {
+        tasks
+            .rows
+            .get(k)
+            .map(|row| TaskEntry::of(tasks.records, *row))
+            .unwrap_or_default()
+    }
+}

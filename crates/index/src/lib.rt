@@ -4,10 +4,7 @@
 mod carried;
 mod entry;
 mod index;
-mod lines;
-mod make;
-mod note;
 mod opening;
 
-pub use entry::{NO_ENTRY, TaskEntry};
+pub use entry::TaskEntry;
 pub use index::Index;
