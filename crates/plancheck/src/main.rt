@@ -1,8 +1,6 @@
 // Reads a plan from standard input, and writes what the library says of it.
 #![tactic(auto)]
 
-ghost use Rattle.std.specs.Prelude.{◌≤◌, length, IfOk};
-
 use clearer::{Rank, Zone};
 use plan::Plan;
 use reader::{check, is_written_in, read};
@@ -11,20 +9,13 @@ use records::{BLANK, ReadFault, Record, WrittenOrder};
 use std::io;
 use std::io::Read;
 
-// Fills the buffer from standard input, as far as the input goes; answers how many bytes came.
-fn fill(rt: &HostRuntime, buffer: &mut [u8]) -> io::Result<usize>
-    ensures { IfOk result (λ filled. filled ≤ length buffer.old) }
-{
-    let mut input = rt.stdin();
-    let mut filled = 0;
-    while filled < buffer.len() {
-        let more = input.read(&mut buffer[filled..])?;
-        if more == 0 {
-            break;
-        }
-        filled += more;
-    }
-    Ok(filled)
+// The text from standard input. One byte more than a plan may have is enough to refuse any longer input.
+fn input(rt: &HostRuntime) -> io::Result<Vec<u8>> {
+    let mut text = Vec::new(rt.alloc());
+    rt.stdin()
+        .take(MOST_BYTES as u64 + 1)
+        .read_to_end(&mut text)?;
+    Ok(text)
 }
 
 fn report_fault(rt: &HostRuntime, fault: ReadFault) -> io::Result<()> {
@@ -61,10 +52,8 @@ fn report<O: WrittenOrder>(rt: &HostRuntime, text: &[u8], sheet: &mut [Record]) 
     }
 }
 
-// Reads a plan from standard input, under ZONE if its first line says so and else under RANK.
-fn run(rt: &HostRuntime, buffer: &mut [u8], sheet: &mut [Record]) -> io::Result<()> {
-    let size = fill(rt, buffer)?;
-    let text = &buffer[0..size];
+// Reads the plan under ZONE if its first line says so and else under RANK, and reports it.
+fn run(rt: &HostRuntime, text: &[u8], sheet: &mut [Record]) -> io::Result<()> {
     if is_written_in::<Zone>(text) {
         report::<Zone>(rt, text, sheet)
     } else {
@@ -72,9 +61,8 @@ fn run(rt: &HostRuntime, buffer: &mut [u8], sheet: &mut [Record]) -> io::Result<
     }
 }
 
-// One byte more than a plan may have is enough to refuse any longer input.
 fn main(rt: HostRuntime) -> io::Result<()> {
-    let mut buffer = vec![in rt.alloc(); 0u8; MOST_BYTES + 1]?;
+    let text = input(&rt)?;
     let mut sheet = vec![in rt.alloc(); BLANK; MOST_LINES]?;
-    run(&rt, &mut buffer, &mut sheet)
+    run(&rt, &text, &mut sheet)
 }

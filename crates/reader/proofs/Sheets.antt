@@ -1,6 +1,6 @@
 -- What a sheet holds on the way through the lines, and when reading gives exactly this sheet.
 use Rattle.std.proofs.Common.{◌≡◌, ℕ, suc, ap₂, ◌+◌, ◌-◌, ◌<◌, ◌≤◌, Bool, true, false, List, [], ◌∷◌, ◌++◌, length, get_or, take, drop, set, replicate, is_ok, Ok, Err, Decides, Result, sym, refl, ap, ◌∙◌, subst, arith}
-use Rattle.std.proofs.lemmas.List.{append-nil, append_assoc, drop_at, drop-drop, drop-replicate, drop-set-lt, get_or_at, get_or-replicate, length-drop, length-take-le, replicate_more, take-append-drop, take_more}
+use Rattle.std.proofs.lemmas.List.{append-nil, append_assoc, drop_at, drop-drop, drop-replicate, drop-set-lt, get_or_at, get_or-replicate, length-drop, length-take-le, take-append-drop}
 use Rattle.std.specs.Bool.{MatchBool}
 use Rattle.std.specs.List.{AllWithin, HoldsAt}
 use Rattle.std.proofs.lemmas.Bool.{false≢true}

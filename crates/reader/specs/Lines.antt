@@ -19,7 +19,7 @@ use Rattle.reader.specs.declared.section.Section.TheVariants.{Nothing, Header, O
 use Rattle.records.specs.Names.{first_named}
 use Rattle.records.specs.Order.{Written}
 use Rattle.tasks.specs.Records.{is_count, last_letter, no_task, objects_of, tasks_of}
-use Rattle.text.specs.Text.{byte, bytes_at, every, fields, is_legal, is_name, lines, nowhere, number_in, one_of, part, some}
+use Rattle.text.specs.Text.{byte, bytes_at, every, fields, is_legal, is_name, lines, nowhere, number_in, one_of, some}
 
 abbrev pub and_then : {A B E : Type 0} → Result A E → (A → Result B E) → Result B E
 and_then (Ok x) f = f x

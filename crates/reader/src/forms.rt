@@ -1,21 +1,13 @@
 // What the parts of a line have to be: each step answers what it found, or a cause.
 ghost use Rattle.std.specs.Prelude.{◌≡◌};
-ghost use Rattle.tasks.specs.Records.{last_letter};
-ghost use Rattle.reader.specs.Lines.{field_bytes, sound, letter_of, letter_after, counted, name_at, number_at, word_at, not_zero, second_at, level_at};
+ghost use Rattle.reader.specs.Lines.{field_bytes, sound, letter_after, counted, name_at, number_at, word_at, not_zero, second_at, level_at};
 
 use crate::ensure::ensure;
 use crate::known::Known;
-use crate::section::may_follow;
+use crate::section::Section;
 use records::limits::LINE_BYTES;
-use records::{Cause, Record, WrittenOrder};
+use records::{Cause, WrittenOrder};
 use text::{Class, Place, Range, is_name, number_in};
-
-// The letter of the last record, or '\0'.
-fn last_letter(records: &[Record]) -> char
-    ensures { result ≡ last_letter records.now }
-{
-    records.last().map_or('\0', |row| row.letter)
-}
 
 // The count is not zero.
 pub fn is_not_zero(count: i32) -> Result<(), Cause>
@@ -43,23 +35,14 @@ impl Known<'_> {
         self.line.field(self.text, n).bytes(self.text)
     }
 
-    // The letter of the line, or '\0' where the first field is not one byte.
-    fn letter(&self) -> char
-        ensures { result ≡ letter_of self.now.text.now self.now.line }
-    {
-        match self.field_bytes(0) {
-            [letter] => *letter as char,
-            _ => '\0',
-        }
-    }
-
-    // The letter of the line, if the line stands in its section.
+    // The letter of the line, if its first field is one letter and the line stands in its section.
     pub fn letter_in_section(&self) -> Result<char, Cause>
         ensures { result ≡ letter_after self.now.text.now self.now.records.now self.now.line }
     {
-        let letter = self.letter();
-        ensure(may_follow(last_letter(self.records), letter), Cause::Letter)?;
-        Ok(letter)
+        match self.field_bytes(0) {
+            [letter] if Section::after(self.records).admits(*letter as char) => Ok(*letter as char),
+            _ => Err(Cause::Letter),
+        }
     }
 
     // The line has so many fields.

@@ -25,12 +25,12 @@ fn fill<O: WrittenOrder>(text: &[u8], sheet: &mut [Record]) -> Result<(), ReadFa
     ensures written { is_ok result ≡ true → sheet.new ≡ sheet_after (length sheet.old) (read_lines O.WrittenOrder.written text.now) }
 {
     let mut lists = Lists::new();
-    let mut count = 0;
     for line in Lines::of(text) {
+        let count = lists.len();
         sheet[count] = read_step::<O>(text, &sheet[..count], &mut lists, line)?;
-        count += 1;
     }
-    finish(&sheet[..count], &lists)
+    let all = lists.len();
+    finish(&sheet[..all], &lists)
 }
 
 // Reads the text into the sheet: a record a line, the others blank. After a fault the sheet is blank.
@@ -65,14 +65,15 @@ fn shows<O: WrittenOrder>(text: &[u8], sheet: &[Record]) -> bool
     ensures { Decides result (Shows (read_lines O.WrittenOrder.written text.now) sheet.now) }
 {
     let mut lists = Lists::new();
-    let mut count = 0;
     for line in Lines::of(text) {
+        let count = lists.len();
         match read_step::<O>(text, &sheet[..count], &mut lists, line) {
-            Ok(row) if row == sheet[count] => count += 1,
+            Ok(row) if row == sheet[count] => {}
             _ => return false,
         }
     }
-    finish(&sheet[..count], &lists).is_ok() && is_blank(&sheet[count..])
+    let all = lists.len();
+    finish(&sheet[..all], &lists).is_ok() && is_blank(&sheet[all..])
 }
 
 // Answers Ok just where reading the text gives no fault and exactly this sheet. It only reads both.

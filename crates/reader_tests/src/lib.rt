@@ -136,8 +136,8 @@ mod tests {
             (
                 sheet[1].letter,
                 sheet[1].number,
-                sheet[1].start,
-                sheet[1].size,
+                sheet[1].name.start,
+                sheet[1].name.size,
             ),
             ('C', 7, 9, 1)
         );

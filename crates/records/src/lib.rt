@@ -12,4 +12,4 @@ pub use fault::{Cause, Layer, ReadFault};
 pub use lookup::{Named, find};
 pub use order::{WaitOrder, WrittenOrder};
 pub use record::{BLANK, Record};
-pub use rows::{Kind, NO_TASK, ObjectRow, TaskRow};
+pub use rows::{Kind, ObjectRow, TaskRow};

@@ -1,5 +1,5 @@
 // The rows of the reader's lists: the objects and the tasks that are declared.
-use text::{NOWHERE, Place};
+use text::Place;
 
 // An object is a channel or a lock.
 #[derive(Clone, Copy, PartialEq, Eq, Default)]
@@ -24,8 +24,3 @@ pub struct TaskRow {
     pub name: Place,
     pub line: usize,
 }
-
-pub const NO_TASK: TaskRow = TaskRow {
-    name: NOWHERE,
-    line: 0,
-};

@@ -5,7 +5,6 @@ ghost use Rattle.tasks.specs.Threads.{moves_of, sends_of, threads_in};
 use crate::parts::Tasks;
 use crate::table::Threads;
 use arrayvec::ArrayVec;
-use records::limits::MOST_THREADS;
 
 impl Threads {
     // The threads of the main task; none where there are more than 64.
@@ -13,9 +12,7 @@ impl Threads {
         ensures { MatchOption result (64 < length (threads_in tasks.now.records.now tasks.now.rows.now)) (λ t. t ≡ threads_in tasks.now.records.now tasks.now.rows.now) }
     {
         let main = tasks.main();
-        if tasks.thread_count(main) > MOST_THREADS {
-            return None;
-        }
+        tasks.thread_count(main)?;
         let mut table = ArrayVec::new();
         tasks.add_threads(main, &mut table);
         Some(Threads { tasks: table })

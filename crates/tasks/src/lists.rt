@@ -1,5 +1,5 @@
 // The lists of what records declare.
-ghost use Rattle.std.specs.Prelude.{◌≤◌};
+ghost use Rattle.std.specs.Prelude.{◌≡◌, ◌≤◌};
 ghost use Rattle.tasks.specs.Records.{View};
 
 use arrayvec::ArrayVec;
@@ -22,4 +22,14 @@ impl Model for Lists {
     ghost view = { λ l. record { objects = l.objects.items; tasks = l.tasks.items; operations = l.operations; lines = l.lines } };
 
     ghost invariant = { λ l. (l.operations ≤ 512) × (l.lines ≤ 800) };
+}
+
+impl Lists {
+    // How many records they are the lists of.
+    pub fn len(&self) -> usize
+        ensures count { result ≡ self.now.lines }
+        ensures few { result ≤ 800 }
+    {
+        self.lines
+    }
 }

@@ -1,5 +1,5 @@
 // The threads of a plan, by recursion into the tasks that are started.
-ghost use Rattle.std.specs.Prelude.{◌≡◌, ℕ, ◌+◌, ◌≤◌, min, ◌++◌, length};
+ghost use Rattle.std.specs.Prelude.{◌≡◌, ℕ, ◌+◌, ◌<◌, ◌≤◌, ◌++◌, length, MatchOption};
 ghost use Rattle.tasks.specs.Threads.{body_of, crew, starts as starting};
 
 use crate::parts::Tasks;
@@ -15,21 +15,21 @@ fn starts(task: usize, row: Record) -> bool
 }
 
 impl Tasks<'_> {
-    // The threads of a task, one and those of every task that its F operations name; one too many where there are more than 64.
-    pub fn thread_count(&self, task: usize) -> usize
-        ensures { result ≡ min 65 (length (crew (body_of self.now.records.now self.now.rows.now) task)) }
+    // The threads of a task, one and those of every task that its F operations name; none where there are more than 64.
+    pub fn thread_count(&self, task: usize) -> Option<usize>
+        ensures { MatchOption result (64 < length (crew (body_of self.now.records.now self.now.rows.now) task)) (λ n. (n ≤ 64) × (n ≡ length (crew (body_of self.now.records.now self.now.rows.now) task))) }
     {
         let body = self.body_of(task);
         let mut n = 1;
         for row in body {
             if starts(task, *row) {
-                n += self.thread_count(row.first);
+                n += self.thread_count(row.first)?;
                 if n > MOST_THREADS {
-                    return MOST_THREADS + 1;
+                    return None;
                 }
             }
         }
-        n
+        Some(n)
     }
 
     // Adds the tasks of the threads of a task, each thread followed at once by all those it brings about.

@@ -3,7 +3,7 @@ use Rattle.tasks.specs.Records.{blank}
 use Rattle.tasks.specs.Threads.{body_of, brought, crew}
 use Rattle.tasks.proofs.Crews.{brought-all, brought-other, brought-started, crew-length}
 use Rattle.tasks.proofs.parts.Tasks.+thread_count.Goals as goal
-use Rattle.tasks.proofs.parts.Tasks.+thread_count.Goals.{then-starts+else-n-gt-MOST_THREADS, else-starts}
+use Rattle.tasks.proofs.parts.Tasks.+thread_count.Goals.{then-starts+in_ok-n+else-n-gt-MOST_THREADS, else-starts}
 
 pub loop-row-init : goal.loop-row-init
 loop-row-init t c =
@@ -11,13 +11,13 @@ loop-row-init t c =
     (omega arith, crew-length (body_of c.args.self.now.records.now c.args.self.now.rows.now) c.args.task ∙ ap (λ ops. 1 + length (brought f c.args.task ops)) (sym c.body_of-body.ensures))
 
 pub overflow_add-n : goal.overflow_add-n
-overflow_add-n t c = omega (arith, c.loop-row.invariant.0, c.thread_count-n.ensures)
+overflow_add-n t c = omega (arith, c.loop-row.invariant.0, c.in_ok-n.ensures)
 
 pub returns-then-n-gt-MOST_THREADS : goal.returns-then-n-gt-MOST_THREADS
 returns-then-n-gt-MOST_THREADS t c =
     let f = crew (body_of c.args.self.now.records.now c.args.self.now.rows.now) in
     let e = brought-started f c.args.task c.body_of-body.result.now c.loop-row.row-index blank c.loop-row-test.true c.if-starts.ensures in
-    omega (arith, e, c.thread_count-n.ensures, c.loop-row.invariant, c.if-n-gt-MOST_THREADS.true)
+    omega (arith, e, c.in_ok-n.ensures, c.loop-row.invariant, c.if-n-gt-MOST_THREADS.true)
 
 pub returns : goal.returns
 returns t c =
@@ -29,9 +29,9 @@ pub loop-row-preserved : goal.loop-row-preserved
 loop-row-preserved t c =
     let f = crew (body_of c.args.self.now.records.now c.args.self.now.rows.now) in
     elim c.if-starts.branch [
-      | then-starts+else-n-gt-MOST_THREADS w ↦
+      | then-starts+in_ok-n+else-n-gt-MOST_THREADS w ↦
           let e = brought-started f c.args.task c.body_of-body.result.now c.loop-row.row-index blank c.loop-row-test.true w.if-starts.ensures in
-          (omega (arith, w.n-is, w.if-n-gt-MOST_THREADS.false), omega (arith, w.n-is, e, w.thread_count-n.ensures, w.if-n-gt-MOST_THREADS.false, c.loop-row.invariant))
+          (omega (arith, w.n-is, w.if-n-gt-MOST_THREADS.false), omega (arith, w.n-is, e, w.in_ok-n.ensures, w.if-n-gt-MOST_THREADS.false, c.loop-row.invariant))
       | else-starts w ↦
           let e = brought-other f c.args.task c.body_of-body.result.now c.loop-row.row-index blank c.loop-row-test.true w.if-starts.ensures in
           (omega (arith, w.n-is, c.loop-row.invariant.0), omega (arith, w.n-is, e, c.loop-row.invariant))
