@@ -4,7 +4,8 @@ ghost use Rattle.std.specs.List.{All};
 
 use crate::entry::Entry;
 
-// The caller's memory with all messages at its front, in the order of their arrival.
+// The caller's memory with all messages at its front, in the order of their arrival. The memory is lent, so how much of it
+// is in use stands beside it.
 #[derive(Drop)]
 pub struct Pool<'a, T: Copy> {
     pub(crate) memory: &'a mut [Entry<T>],

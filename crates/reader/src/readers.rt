@@ -150,7 +150,8 @@ impl Known<'_> {
         })
     }
 
-    // The letter chooses the reader of the line.
+    // The letter chooses the reader of the line: a match on the letters themselves, as in the rules of a plan, and no table
+    // of closures, since the readers take different arguments.
     fn by_letter<O: WrittenOrder>(&self, letter: char) -> Result<Record, Cause>
         ensures { result ≡ by_letter O.WrittenOrder.written letter (held self.now) self.now.line }
     {

@@ -9,7 +9,8 @@ use records::{Cause, ReadFault, Record, WrittenOrder};
 use tasks::Lists;
 use text::Line;
 
-// The record of a line if there is room for it, else a cause. The lists are then those with the record.
+// The record of a line if there is room for it, else a cause. The lists are then those with the record. They are lent for
+// change here, so that they are those of the records is required, and no field of a struct with both.
 fn read_record<O: WrittenOrder>(
     text: &[u8],
     records: &[Record],

@@ -59,7 +59,8 @@ fn is_blank(rows: &[Record]) -> bool
     rows.iter().all(|row| *row == BLANK)
 }
 
-// Whether the lines of the text give no fault and exactly this sheet.
+// Whether the lines of the text give no fault and exactly this sheet. It goes through the lines as `fill` does: what they
+// share is `read_step` and `finish`, and one loop for both would take the sheet in two ways, to write and to compare.
 fn shows<O: WrittenOrder>(text: &[u8], sheet: &[Record]) -> bool
     requires { 800 ≤ length sheet.now }
     ensures { Decides result (Shows (read_lines O.WrittenOrder.written text.now) sheet.now) }

@@ -25,7 +25,8 @@ fn has_count(channel: usize, records: &[Record]) -> bool
         .any(|row| row.letter == 'Q' && row.first == channel)
 }
 
-// The line of the last task, 0 where there is none.
+// The line of the last task, 0 where there is none. No Option: the records after line 0 are all of them, which is what
+// follows the last task where there is none.
 pub fn last_task_line(rows: &[TaskRow]) -> usize
     ensures { result ≡ last_task_line rows.now }
 {

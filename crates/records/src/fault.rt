@@ -59,7 +59,8 @@ impl Cause {
 }
 
 impl ReadFault {
-    // The number of the fault, 1 to 15.
+    // The number of the fault, 1 to 15. Two cases share the 2, and a bad line has the number of its cause, so it is no
+    // discriminant.
     pub fn number(self) -> u8
         ensures { result ≡ number_of self }
     {
@@ -75,7 +76,7 @@ impl ReadFault {
         }
     }
 
-    // The line that the fault names, from 1; 0 where it names none.
+    // The line that the fault names, from 1; 0 where it names none, as it is written. No Option: lines count from 1.
     pub fn line(self) -> usize
         ensures { result ≡ line_of self }
     {

@@ -4,7 +4,8 @@ ghost use Rattle.records.specs.Names.{first_named, named};
 
 use crate::rows::{ObjectRow, TaskRow};
 
-// A row with a name: the place of the name in the text is its start and its length.
+// A row with a name: the place of the name in the text is its start and its length. Each row answers it as a pair, which
+// the one lookup takes apart, so that both impls read alike.
 pub trait Named {
     ghost spot: { Self → ℕ × ℕ };
 

@@ -1,7 +1,8 @@
 // What reading writes: a record a line.
 use text::{NOWHERE, Place};
 
-// The record of a line. What a line lacks is 0, and a blank record is all zero.
+// The record of a line. What a line lacks is 0, and a blank record is all zero: the sheet is the caller's, and this is its
+// format, so a record is no enum of the kinds of lines, and its letter is the letter.
 #[derive(Clone, Copy, PartialEq, Eq)]
 pub struct Record {
     pub letter: char,

@@ -26,6 +26,8 @@ impl Threads {
         self.tasks.as_slice()
     }
 
+    // Moves and sends are two chains of one line each; a shared one would take what it sums as a closure, and be longer.
+
     // The moves of all these threads: their operations, and one closing each.
     pub fn moves(&self, tasks: &Tasks) -> usize
         ensures { result ≡ sum_by (moves_of tasks.now.records.now tasks.now.rows.now) self.now }

@@ -21,6 +21,9 @@ pub fn rest(records: &[Record], from: usize) -> &[Record]
     records.get(from..).unwrap_or_default()
 }
 
+// The three counts of rows stand beside one another: with the test of a row as a closure, the contract of one function for
+// all could only speak of the closure's calls.
+
 // How many Q lines the rows begin with.
 pub fn leading_counts(rows: &[Record]) -> usize
     ensures { result ≡ prefix_len is_count rows.now }

@@ -2,6 +2,7 @@
 ghost use Rattle.std.specs.Prelude.{◌≡◌, ℕ, Bool, ◌==◌};
 ghost use Rattle.text.specs.Text.{belongs, every, first_from};
 
+// A class of bytes. Three values that a contract can name, and no closure, of which a contract could only say its calls.
 #[derive(Clone, Copy)]
 pub enum Class {
     // 0 to 9

@@ -70,7 +70,8 @@ impl Line {
         self.fields(text).count()
     }
 
-    // The field with this number, from 0; an empty one where the line has fewer.
+    // The field with this number, from 0; an empty one where the line has fewer. No Option: a field that is missing is read
+    // like an empty one, which has no form, and whoever asks has counted the fields before.
     pub fn field(self, text: &[u8], number: usize) -> Place
         ensures { result ≡ slice_index_or (fields text.now self) number nowhere }
     {

@@ -11,7 +11,7 @@ pub struct Place {
 
 pub const NOWHERE: Place = Place { start: 0, size: 0 };
 
-// The place of a line, and whether byte 10 ends it.
+// The place of a line, and whether byte 10 ends it. No Option: a line that is not ended has a place too, and is refused there.
 #[derive(Clone, Copy)]
 pub struct Line {
     pub place: Place,
