@@ -17,7 +17,8 @@ pub trait Lists {
     // A number above 31 has no messages and no room.
     ghost bounded: { Bounded kind };
 
-    // The length of the lent memory.
+    // The length of the lent memory. That a call keeps it is a fact of two states, which no invariant of one can say, so each
+    // call that changes the lists says it.
     ghost lent: { Self → ℕ };
 
     // How many messages wait.
