@@ -2,3 +2,5 @@ pub mod Orders
 pub mod Samples
 pub mod Breach
 pub mod Verdicts
+pub mod Faults
+pub mod Walked

@@ -13,7 +13,8 @@ use Rattle.tasks.specs.Threads.{body_of, brought, crew, moves_in, moves_of, send
 use Rattle.tasks.proofs.Crews.{crew-rule}
 use Rattle.text.specs.Text.{byte}
 use Rattle.plan.specs.Good.{Checked, is_locking, is_receive}
-use Rattle.plan.specs.Program.{natural, op_of, program_of}
+use Rattle.index.specs.Amounts.{natural}
+use Rattle.plan.specs.Program.{op_of, program_of}
 use Rattle.plan.proofs.Sections.{one_of_lem}
 use Rattle.plan.proofs.Sounds.{op_cases, sound_program, start-above}
 

@@ -10,3 +10,5 @@ pub mod Limits
 pub mod Counts
 pub mod Checks
 pub mod Meanings
+pub mod Edges
+pub mod Kept

@@ -12,7 +12,8 @@ use Rattle.tasks.specs.Records.{blank, is_count, no_task, tasks_of}
 use Rattle.tasks.specs.Threads.{body_of, counts_of}
 use Rattle.text.specs.Text.{byte}
 use Rattle.plan.specs.Good.{Checked, is_carry}
-use Rattle.plan.specs.Program.{carried_by, counted_on, natural, op_of, program_of}
+use Rattle.index.specs.Amounts.{carried_by, counted_on, natural}
+use Rattle.plan.specs.Program.{op_of, program_of}
 use Rattle.plan.proofs.Bodies.{short_body}
 use Rattle.plan.proofs.Leadings.{front_length, leading_at}
 use Rattle.plan.proofs.Sections.{count_no_blank}
@@ -38,7 +39,7 @@ natural-few : (z : ℤ) → z ≤ℤ pos 100 → natural z ≤ 100
 natural-few (pos n) h = omega (arith, ints)
 natural-few (negsuc n) h = omega arith
 
-carry_no_blank : (r : Record) → is_carry r ≡ true → r.letter ≡ 0 → ⊥
+pub carry_no_blank : (r : Record) → is_carry r ≡ true → r.letter ≡ 0 → ⊥
 carry_no_blank r e z = let w : r.letter ≡ 87 = eqb-true r.letter (byte "W") e in omega arith
 
 module _ (rs : List Record) (C : Checked rs) where

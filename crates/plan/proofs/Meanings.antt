@@ -5,6 +5,7 @@ use Rattle.plan.specs.Meaning.{Meant}
 use Rattle.plan.specs.Plans.{WasRead, records_in}
 use Rattle.plan.proofs.Checks.{was_checked}
 use Rattle.plan.proofs.Counts.{moves-agree, sends-agree, threads-agree}
+use Rattle.plan.proofs.Edges.{narrow_program}
 use Rattle.plan.proofs.Limits.{limited_program}
 use Rattle.plan.proofs.Sounds.{sound_program}
 
@@ -16,6 +17,7 @@ meaning_of made text sheet w =
       checked = c;
       sound = sound_program rs c made;
       limited = limited_program rs c made;
+      narrow = narrow_program rs c made;
       threads = threads-agree made rs c;
       moves = moves-agree made rs c;
       sends = sends-agree made rs c;

@@ -103,7 +103,7 @@ module _ (rs : List Record) (good : (i : ℕ) → i < length rs → ((get_or rs 
       after_inner (eqb c (byte "P")) (one_of c (codes "CK")) (eqb c (byte "W")) (is_task (get_or rs i blank)) (is_count (get_or rs i blank)) (is_operation (get_or rs i blank))
       (get_or rs (i + 1) blank).letter n follows
 
-  not_first : Inner (get_or rs 0 blank).letter → ((get_or rs 0 blank).letter ≡ 0 → ⊥) → 0 < length rs → ⊥
+  pub not_first : Inner (get_or rs 0 blank).letter → ((get_or rs 0 blank).letter ≡ 0 → ⊥) → 0 < length rs → ⊥
   not_first n written h = false≢true (sym n.nothing ∙ (good 0 h written).follows)
 
   -- the line of task k, and the index of its first operation

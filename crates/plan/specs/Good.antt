@@ -13,12 +13,19 @@ use Rattle.plan.specs.Program.{is_channel, no_object}
 abbrev pub Uses : List Record → Bool → ℕ → Type 0
 Uses rs channel x = (x < length (objects_of rs)) × (is_channel (get_or (objects_of rs) x no_object).kind ≡ channel)
 
+-- a number from low to high
 abbrev pub Between : ℤ → ℤ → ℤ → Type 0
 Between low high z = (low ≤ℤ z) × (z ≤ℤ high)
 
+-- a word is 0 to 65535
+abbrev pub Word : ℤ → Type 0
+Word = Between (pos 0) (pos 65535)
+
+-- a W line
 abbrev pub is_carry : Record → Bool
 is_carry r = r.letter == (byte "W")
 
+-- an R line
 abbrev pub is_receive : Record → Bool
 is_receive r = r.letter == (byte "R")
 
@@ -38,7 +45,7 @@ pub record Good (rs : List Record) (r : Record) : Type 0 where
   -- a Q line names a channel, and a count other than zero
   pub counts : is_count r ≡ true → Uses rs true r.first × Between (negsuc 99) (pos 100) r.number × (r.number ≢ pos 0)
   -- a send names a channel and a word, a receive names a channel, an acquire and a release name a lock
-  pub sends : is_send r ≡ true → Uses rs true r.first × Between (pos 0) (pos 65535) r.number
+  pub sends : is_send r ≡ true → Uses rs true r.first × Word r.number
   pub receives : is_receive r ≡ true → Uses rs true r.first
   pub locks : is_locking r ≡ true → Uses rs false r.first
   -- a start names a task above the one that stands open

@@ -2,5 +2,8 @@
 #![tactic(auto)]
 
 mod plan;
+mod step;
+mod steps;
 
 pub use plan::Plan;
+pub use step::Step;

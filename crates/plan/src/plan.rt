@@ -6,23 +6,25 @@ ghost use Rattle.plan.specs.Made.{Made};
 ghost use Rattle.plan.specs.Meaning.{Meant};
 ghost use Rattle.plan.specs.Plans.{WasRead, plan_threads, plan_moves, plan_sends};
 
+use index::Index;
 use records::limits::MOST_LINES;
 use records::{Record, WaitOrder, WrittenOrder};
 use tasks::{Lists, Tasks, Threads};
 
-// The text and the sheet that reading it gives, with the lists of its objects and tasks and the table of its threads,
-// made once, and its counts. It cannot be copied: a later stage is made from it and uses it up.
+// The text and the sheet that reading it gives, with the lists of its objects and tasks, the table of its threads and
+// the index of its tasks, made once, and its counts. It cannot be copied: a later stage is made from it and uses it up.
 #[derive(Drop)]
 pub struct Plan<'a> {
-    text: &'a [u8],
-    sheet: &'a [Record],
-    lists: Lists,
-    threads: Threads,
+    pub(crate) text: &'a [u8],
+    pub(crate) sheet: &'a [Record],
+    pub(crate) lists: Lists,
+    pub(crate) threads: Threads,
+    pub(crate) index: Index,
     moves: usize,
     sends: usize,
     ghost read: { WasRead text.now sheet.now },
     ghost long: { 800 ≤ length sheet.now },
-    ghost made: { ∥ Made lists threads sheet.now ∥₁ },
+    ghost made: { ∥ Made lists threads index sheet.now ∥₁ },
     ghost crew: { threads ≡ plan_threads sheet.now },
     ghost counts: { (moves ≡ plan_moves sheet.now) × (sends ≡ plan_sends sheet.now) },
 }
@@ -45,11 +47,13 @@ impl<'a> Plan<'a> {
         };
         let moves = threads.moves(&tasks);
         let sends = threads.sends(&tasks);
+        let index = Index::of(&tasks);
         Plan {
             text,
             sheet,
             lists,
             threads,
+            index,
             moves,
             sends,
         }

@@ -1,5 +1,6 @@
 use Rattle.std.proofs.Common.{◌≡◌, ◌<◌, length, sym, sum_by, ap, ◌∙◌, subst, arith}
 use Rattle.std.proofs.lemmas.List.{length-take-le}
+use Rattle.index.specs.Entries.{Indexed}
 use Rattle.tasks.specs.Records.{View, tasks_of}
 use Rattle.tasks.specs.Threads.{moves_of, sends_of, threads_in}
 use Rattle.plan.specs.Plans.{plan_threads, records_in}
@@ -30,11 +31,12 @@ invariant_of-result g c =
     let rows : c.in-Some.threads ≡ plan_threads sheet = c.in-Some.ensures ∙ ap (threads_in (records_in sheet)) (tasks g a) in
     let rs = records_in sheet in
     let moves = c.moves-moves.ensures ∙ ap (λ ts. sum_by (moves_of rs ts) (c.in-Some.threads)) (tasks g a) ∙ ap (sum_by (moves_of rs (tasks_of rs))) rows in
+    let indexed = subst (λ ts. Indexed rs ts c.of-index.result) (tasks g a) c.of-index.ensures in
     let sends = c.sends-sends.ensures ∙ ap (λ ts. sum_by (sends_of rs ts) (c.in-Some.threads)) (tasks g a) ∙ ap (sum_by (sends_of rs (tasks_of rs))) rows in
     record {
       read = ∣ (g.O.WrittenOrder.written, law.0, law.1, c.requires) ∣₁;
       long = w.long;
-      made = ∣ record { listed = c.of-lists.ensures w.roomy; crew = rows } ∣₁;
+      made = ∣ record { listed = c.of-lists.ensures w.roomy; crew = rows; indexed = indexed } ∣₁;
       crew = rows;
       counts = (moves, sends);
     }
