@@ -1,5 +1,5 @@
 // Keeping the lists of the records, one record after another.
-ghost use Rattle.std.specs.Prelude.{◌≡◌, ◌+◌, ◌<◌, true, [], ◌++◌, length, Ok, Err, if◌then◌else◌};
+ghost use Rattle.std.specs.Prelude.{◌≡◌, ◌+◌, ◌<◌, ◌≤◌, true, [], ◌++◌, length, Ok, Err, if◌then◌else◌};
 ghost use Rattle.tasks.specs.Records.{is_object, is_task, is_operation, kind_of, object_row, objects_in, task_row, tasks_in, pushed, room_in, view_of};
 ghost use Rattle.tasks.specs.Roomy.{Roomy};
 ghost use Rattle.records.specs.declared.fault.Cause.TheVariants.{Full};
@@ -70,14 +70,16 @@ impl Lists {
 
     // The objects, in the order of their declaration.
     pub fn object_rows(&self) -> &[ObjectRow]
-        ensures { result.now ≡ self.now.objects }
+        ensures rows { result.now ≡ self.now.objects }
+        ensures few { length result.now ≤ 32 }
     {
         self.objects.as_slice()
     }
 
     // The tasks, in the order of their T lines.
     pub fn task_rows(&self) -> &[TaskRow]
-        ensures { result.now ≡ self.now.tasks }
+        ensures rows { result.now ≡ self.now.tasks }
+        ensures few { length result.now ≤ 24 }
     {
         self.tasks.as_slice()
     }

@@ -14,7 +14,7 @@ says : (g : given.Over) (c : After-of g) → Whole c.args.sheet.now
 says g c = whole g.O.WrittenOrder.written c.args.text.now c.args.sheet.now c.requires
 
 tasks : (g : given.Over) (c : After-of g) → c.task_rows.result.now ≡ tasks_of (records_in c.args.sheet.now)
-tasks g c = c.task_rows.ensures ∙ ap (λ (v : View). v.tasks) (c.of-lists.ensures (says g c).roomy)
+tasks g c = c.task_rows.ensures.rows ∙ ap (λ (v : View). v.tasks) (c.of-lists.ensures (says g c).roomy)
 
 pub unreachable-requires : goal.unreachable-requires
 unreachable-requires g c =
