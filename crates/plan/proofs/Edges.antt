@@ -1,11 +1,11 @@
 -- Past the tasks and the objects of checked records there is nothing.
-use Rattle.std.proofs.Common.{◌≡◌, ℕ, zero, suc, ◌+◌, ◌<◌, ◌≤◌, Bool, true, false, cond, ◌&&◌, eqb, ◌⊎◌, List, [], ◌∷◌, length, get_or, take, drop, ℤ, pos, sym, refl, ap, ◌∙◌, inl, inr, ⊎_elim, arith}
+use Rattle.std.proofs.Common.{◌≡◌, ℕ, suc, ◌+◌, ◌<◌, ◌≤◌, true, false, cond, ◌&&◌, eqb, ◌⊎◌, List, [], ◌∷◌, length, get_or, take, drop, ℤ, pos, sym, refl, ap, ◌∙◌, inr, ⊎_elim, arith}
 use Rattle.std.specs.List.{prefix_len}
 use Rattle.std.proofs.lemmas.List.{get_or-drop, get_or_past, get_or-take, length-drop}
 use Rattle.std.proofs.lemmas.Bool.{and_parts, cases_Bool, cases_lt, eqb-true}
 use Rattle.index.specs.Amounts.{carried_by, carries_of, counted_on, natural}
 use Rattle.records.specs.declared.record.Record.{Record}
-use Rattle.tasks.specs.Records.{blank, is_count, is_operation, no_task, objects_of, tasks_of}
+use Rattle.tasks.specs.Records.{blank, is_count, is_operation, no_task}
 use Rattle.tasks.specs.Threads.{counts_of, first_operation, operations_of}
 use Rattle.plan.specs.Good.{Checked, is_carry}
 use Rattle.plan.specs.Meaning.{Narrow}

@@ -1,25 +1,21 @@
 -- What a plan keeps: its lists and its index are those of its sheet.
-use Rattle.std.proofs.Common.{◌≡◌, ℕ, ◌+◌, ◌<◌, ◌≤◌, true, List, [], ◌∷◌, length, get_or, replicate, ℤ, pos, sym, refl, ap, ◌∙◌, subst, ⊎_elim, arith}
+use Rattle.std.proofs.Common.{◌≡◌, ℕ, ◌+◌, ◌<◌, ◌≤◌, true, List, [], length, get_or, pos, sym, ap, ◌∙◌, subst, ⊎_elim, arith}
 use mathlib.Core.Logic.{∥∥₁_elim}
 use native.Mathlib.Nat.{ℕ_set}
 use base.Stored.{Coded-set, coded_list, coded_ℤ}
-use Rattle.std.proofs.lemmas.List.{get_or_past, get_or-replicate, get_or-take, length-map, length-take}
+use Rattle.std.proofs.lemmas.List.{get_or_past, get_or-take, length-map, length-take}
 use Rattle.std.proofs.lemmas.Bool.{cases_lt}
 use Rattle.model.specs.Program.{closing, operation, step_at}
 use Rattle.model.proofs.Breaches.{end_step}
-use Rattle.index.specs.Amounts.{amount_at, amount_in, carried_by, counted_on}
-use Rattle.index.specs.Entries.{EntryOf, no_entry}
+use Rattle.index.specs.Amounts.{amount_at, carried_by, counted_on}
+use Rattle.index.specs.Entries.{EmptyEntry, EntryOf, no_entry}
 use Rattle.index.specs.declared.entry.TaskEntry.{TaskEntry}
 use Rattle.index.specs.declared.index.Index.{Index}
 use Rattle.records.specs.declared.record.Record.{Record}
-use Rattle.records.specs.declared.rows.ObjectRow.{ObjectRow}
 use Rattle.records.specs.declared.rows.TaskRow.{TaskRow}
 use Rattle.records.specs.contracts.rows.ObjectRow as object-row
 use Rattle.records.specs.contracts.rows.TaskRow as task-row
-use Rattle.tasks.specs.declared.lists.Lists.{Lists}
-use Rattle.tasks.specs.declared.table.Threads.{Threads}
 use Rattle.tasks.specs.Records.{View, blank, is_operation, is_send, no_task, objects_of, tasks_of}
-use Rattle.tasks.specs.Shown.{object_list, task_list}
 use Rattle.tasks.specs.Threads.{body_of, operations_of}
 use Rattle.plan.specs.Good.{Checked, Word}
 use Rattle.plan.specs.Made.{Made}
@@ -29,11 +25,11 @@ use Rattle.plan.proofs.Bodies.{stands}
 use Rattle.plan.proofs.Edges.{past_counts, past_first, past_operations}
 use Rattle.plan.proofs.Sounds.{good-operation, step-here}
 
-module _ (lists : Lists) (threads : Threads) (index : Index) (sheet : List Record) (made : ∥ Made lists threads index sheet ∥₁) where
-  pub objects_are : object_list lists ≡ objects_of (records_in sheet)
+module _ (lists : View) (threads : List ℕ) (index : Index) (sheet : List Record) (made : ∥ Made lists threads index sheet ∥₁) where
+  pub objects_are : lists.objects ≡ objects_of (records_in sheet)
   objects_are = ∥∥₁_elim made (Coded-set (coded_list (object-row.the_row).coded) _ _) (λ m. ap (λ (v : View). v.objects) m.listed)
 
-  pub tasks_are : task_list lists ≡ tasks_of (records_in sheet)
+  pub tasks_are : lists.tasks ≡ tasks_of (records_in sheet)
   tasks_are = ∥∥₁_elim made (Coded-set (coded_list (task-row.the_row).coded) _ _) (λ m. ap (λ (v : View). v.tasks) m.listed)
 
   pub carried-is : (c d : ℕ) → c < 32 → d < 32 → amount_at index.carried c d ≡ pos (carried_by (records_in sheet) c d)
@@ -51,14 +47,14 @@ module _ (lists : Lists) (threads : Threads) (index : Index) (sheet : List Recor
   entry_is k few h = ∥∥₁_elim made (entry_prop _ _ _) (λ m. m.indexed.entries k few h)
 
 -- past the tasks
-pub entry_past : (rs : List Record) → Checked rs → (k : ℕ) → length (tasks_of rs) ≤ k → EntryOf rs (task_at rs k) (record { line = 0; first = 0; operations = 0; opening = replicate 32 (pos 0) })
-entry_past rs C k far =
-    subst (λ t. EntryOf rs t (record { line = 0; first = 0; operations = 0; opening = replicate 32 (pos 0) })) (sym (get_or_past (tasks_of rs) k no_task far))
+pub entry_past : (rs : List Record) → Checked rs → (k : ℕ) (e : TaskEntry) → length (tasks_of rs) ≤ k → EmptyEntry e → EntryOf rs (task_at rs k) e
+entry_past rs C k e far none =
+    subst (λ t. EntryOf rs t e) (sym (get_or_past (tasks_of rs) k no_task far))
     (record {
-      line = refl;
-      first = sym (past_first rs C);
-      operations = sym (ap length (past_operations rs C));
-      opening = λ x h. get_or-replicate 32 x (pos 0) (pos 0) h ∙ sym (ap (λ qs. counted_on qs x) (past_counts rs C));
+      line = none.line;
+      first = none.first ∙ sym (past_first rs C);
+      operations = none.operations ∙ sym (ap length (past_operations rs C));
+      opening = λ x h. none.opening x h ∙ sym (ap (λ qs. counted_on qs x) (past_counts rs C));
     })
 
 pub operations-counted : (rs : List Record) (k : ℕ) (e : TaskEntry) → EntryOf rs (task_at rs k) e → e.operations ≡ length (task_ops rs k)

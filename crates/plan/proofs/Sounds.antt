@@ -8,12 +8,11 @@ use Rattle.reader.specs.Reading.{is_start_of}
 use Rattle.tasks.specs.Records.{blank, is_operation, is_send, is_start, no_task, objects_of, tasks_of}
 use Rattle.tasks.specs.Threads.{body_of}
 use Rattle.text.specs.Text.{byte, one_of, some}
-use Rattle.plan.specs.Good.{Checked, Good, Uses, is_carry, is_locking, is_receive}
-use Rattle.index.specs.Amounts.{carried_by, counted_on, natural}
+use Rattle.plan.specs.Good.{Checked, Good, Uses, is_locking, is_receive}
+use Rattle.index.specs.Amounts.{counted_on, natural}
 use Rattle.plan.specs.Program.{is_channel, no_object, op_of, program_of}
-use Rattle.plan.proofs.Bodies.{Stands, body_length, few_objects, short_body, stands, uses_whole}
-use Rattle.plan.proofs.Leadings.{front_length, leading_at, tasks_by}
-use Rattle.plan.proofs.Sections.{count_no_blank, no, one_of_lem, operation_letter, operation_no_blank, operation-place}
+use Rattle.plan.proofs.Bodies.{body_length, few_objects, stands, uses_whole}
+use Rattle.plan.proofs.Sections.{no, operation_letter, operation_no_blank, operation-place}
 
 -- the steps of a list of operation records
 

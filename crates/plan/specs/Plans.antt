@@ -5,7 +5,7 @@ use Rattle.records.specs.Order.{Written}
 use Rattle.tasks.specs.Records.{tasks_of}
 use Rattle.tasks.specs.Threads.{moves_in, sends_in, threads_in}
 use Rattle.reader.specs.Reading.{Shows, reading}
-use Rattle.text.specs.Text.{part}
+use Rattle.text.specs.Text.{bytes_at}
 use Rattle.plan.specs.Program.{object}
 
 -- under some written order reading the text gives no fault and exactly this sheet
@@ -29,4 +29,4 @@ plan_sends sheet = sends_in (records_in sheet) (tasks_of (records_in sheet))
 
 -- the bytes of the name of an object
 abbrev pub name_of : List ℕ → List Record → ℕ → List ℕ
-name_of text rs x = part text (object rs x).start (object rs x).size
+name_of text rs x = bytes_at text (object rs x).name

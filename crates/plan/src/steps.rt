@@ -69,7 +69,7 @@ impl<'a> Plan<'a> {
     fn entry(&self, task: usize) -> TaskEntry
         ensures { EntryOf (records_in self.now.sheet.now) (task_at (records_in self.now.sheet.now) task) result }
     {
-        if task < self.task_count() {
+        if task < self.lists.task_rows().len() {
             self.index.tasks[task]
         } else {
             TaskEntry::default()
@@ -111,11 +111,10 @@ impl<'a> Plan<'a> {
     pub fn carried(&self, channel: usize) -> [i32; MOST_OBJECTS]
         ensures { (x : ℕ) → x < 32 → amount_in result x ≡ pos (carried_by (records_in self.now.sheet.now) channel x) }
     {
-        self.index
-            .carried
-            .get(channel)
-            .copied()
-            .unwrap_or([0; MOST_OBJECTS])
+        match self.index.carried.get(channel) {
+            Some(row) => *row,
+            None => [0; MOST_OBJECTS],
+        }
     }
 
     // What a task starts with on each channel.

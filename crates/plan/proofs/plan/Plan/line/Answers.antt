@@ -1,10 +1,10 @@
-use Rattle.std.proofs.Common.{◌≡◌, ◌+◌, ◌<◌, ◌≤◌, length, sym, ap, ◌∙◌, arith, rules}
+use Rattle.std.proofs.Common.{◌+◌, ◌<◌, ◌≤◌, length, sym, ap, ◌∙◌, arith, rules}
 use Rattle.std.proofs.lemmas.Bool.{cond-false, cond-true, le-ltb, lt-ltb}
 use Rattle.tasks.specs.Records.{tasks_of}
 use Rattle.tasks.specs.Threads.{body_of}
 use Rattle.plan.specs.Plans.{records_in}
 use Rattle.plan.proofs.Checks.{was_checked}
-use Rattle.plan.proofs.Kept.{Found, found}
+use Rattle.plan.proofs.Kept.{found}
 use Rattle.plan.proofs.plan.Plan.line.Goals as goal
 use Rattle.plan.proofs.plan.Plan.line.Goals.{Then-place-entry}
 

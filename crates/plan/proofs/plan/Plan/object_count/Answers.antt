@@ -5,4 +5,4 @@ use Rattle.plan.proofs.plan.Plan.object_count.Goals as goal
 pub returns : goal.returns
 returns c =
     let p = c.args.self.now in
-    ap length (c.object_rows.ensures ∙ objects_are p.lists p.threads p.index p.sheet.now p.made)
+    ap length (c.object_rows.ensures.rows ∙ objects_are p.lists p.threads p.index p.sheet.now p.made)

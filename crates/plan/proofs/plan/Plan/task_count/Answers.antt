@@ -5,4 +5,4 @@ use Rattle.plan.proofs.plan.Plan.task_count.Goals as goal
 pub returns : goal.returns
 returns c =
     let p = c.args.self.now in
-    ap length (c.task_rows.ensures ∙ tasks_are p.lists p.threads p.index p.sheet.now p.made)
+    ap length (c.task_rows.ensures.rows ∙ tasks_are p.lists p.threads p.index p.sheet.now p.made)
