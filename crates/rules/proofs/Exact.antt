@@ -1,5 +1,5 @@
 -- What an operation does to an account, exactly: past the 32 objects there is nothing, and within 51,300 nothing wraps.
-use Rattle.std.proofs.Common.{◌≡◌, ℕ, ◌<◌, ◌≤◌, Bool, true, false, cond, eqb, length, ℤ, pos, sym, refl, ap, ◌∙◌, ⊎_elim, arith, w32, SFits, rules}
+use Rattle.std.proofs.Common.{◌≡◌, ℕ, ◌<◌, ◌≤◌, true, false, eqb, length, ℤ, pos, sym, refl, ◌∙◌, ⊎_elim, arith, w32, SFits}
 use Rattle.std.proofs.lemmas.List.{get_or_past}
 use Rattle.std.proofs.lemmas.Int.{ints, int_wrap_fits}
 use Rattle.std.proofs.lemmas.Bool.{cases_lt, cond-false, ne_eqb}

@@ -1,6 +1,5 @@
 -- What a step does to the counts and to the locks of its thread's account. Counts have 32 bits, and wrap; the accounts of
 -- a plan stay within 51,300, where nothing does. A closing changes nothing.
-use Rattle.std.specs.Prelude.{ℕ}
 use Rattle.std.specs.Int.{int_wrap, w32}
 use Rattle.model.specs.Program.{Account, Locks, Program, Step, closing, operation, send, receive, acquire, release, start}
 use Rattle.model.specs.Rules.{locked, paid}

@@ -1,5 +1,5 @@
 // Reading and changing an account.
-ghost use Rattle.std.specs.Prelude.{◌≡◌, ℕ, ◌<◌, false, pos, ◌+ℤ◌, ◌-ℤ◌, ◌≤ℤ◌, if◌then◌else◌, nat_eq, slice_index_or};
+ghost use Rattle.std.specs.Prelude.{◌≡◌, ℕ, ◌<◌, false, length, pos, ◌+ℤ◌, ◌-ℤ◌, ◌≤ℤ◌, if◌then◌else◌, nat_eq, slice_index_or};
 ghost use Rattle.std.specs.Int.{int_wrap, w32};
 ghost use Rattle.index.specs.Amounts.{amount_in};
 ghost use Rattle.model.specs.Program.{same};
@@ -19,6 +19,12 @@ impl Account {
             locks: [false; MOST_OBJECTS],
         }
     }
+
+    // An account has a count and a lock for each of the 32 objects; for a caller that knows it only by a `&mut`.
+    pub fn whole(&self)
+        ensures counts { length self.now.counts ≡ 32 }
+        ensures locks { length self.now.locks ≡ 32 }
+    {}
 
     // The count of a channel.
     pub fn count(&self, channel: usize) -> i32

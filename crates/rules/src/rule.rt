@@ -5,17 +5,17 @@ ghost use Rattle.rules.specs.Offences.{rule_number};
 #[derive(Clone, Copy)]
 pub enum Rule {
     // a receive without a credit of its channel
-    NoCredit,
+    NoCredit = 21,
     // a receive while an object is owed or held whose level is not below that of the channel
-    ReceiveBarred,
+    ReceiveBarred = 22,
     // an acquire while an object is owed or held whose level is not below that of the lock
-    AcquireBarred,
+    AcquireBarred = 23,
     // a release of a lock that is not held
-    NotHeld,
+    NotHeld = 24,
     // a closing while a channel is owed
-    Owing,
+    Owing = 25,
     // a closing while a lock is held
-    Holding,
+    Holding = 26,
 }
 
 // The rule that a step breaks, and the object that is named: of a receive without a credit and of a release the step's
@@ -31,13 +31,6 @@ impl Rule {
     pub fn number(self) -> u8
         ensures { result ≡ rule_number self }
     {
-        match self {
-            Rule::NoCredit => 21,
-            Rule::ReceiveBarred => 22,
-            Rule::AcquireBarred => 23,
-            Rule::NotHeld => 24,
-            Rule::Owing => 25,
-            Rule::Holding => 26,
-        }
+        self as u8
     }
 }

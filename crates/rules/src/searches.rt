@@ -35,35 +35,19 @@ pub(crate) fn barring<O: WaitOrder>(plan: &Plan, account: &Account, object: usiz
     ensures { result ≡ first (bars (program_of O.WaitOrder.made (records_in plan.now.sheet.now)) O.WaitOrder.below object (count_of account.now) (held_by account.now)) (length (objects_of (records_in plan.now.sheet.now))) }
 {
     let goal = level_of::<O>(plan, object);
-    let objects = plan.object_count();
-    for x in 0..objects {
-        if stands_in_way::<O>(plan, account, x, &goal) {
-            return Some(x);
-        }
-    }
-    None
+    (0..plan.object_count()).find(|x| stands_in_way::<O>(plan, account, *x, &goal))
 }
 
 // The first of so many objects that is owed.
 pub(crate) fn first_owed(account: &Account, objects: usize) -> Option<usize>
     ensures { result ≡ first (owing (count_of account.now)) objects }
 {
-    for x in 0..objects {
-        if account.owes(x) {
-            return Some(x);
-        }
-    }
-    None
+    (0..objects).find(|x| account.owes(*x))
 }
 
 // The first of so many objects that is held.
 pub(crate) fn first_held(account: &Account, objects: usize) -> Option<usize>
     ensures { result ≡ first (held_by account.now) objects }
 {
-    for x in 0..objects {
-        if account.holds(x) {
-            return Some(x);
-        }
-    }
-    None
+    (0..objects).find(|x| account.holds(*x))
 }
