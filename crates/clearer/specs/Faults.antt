@@ -10,10 +10,6 @@ use Rattle.clearer.specs.Breach.{Breach}
 abbrev pub breach_seen : ClearFault → Breach
 breach_seen f = record { number = rule_number f.rule; line = f.line; object = f.object }
 
-abbrev pub breach_of : Option ClearFault → Option Breach
-breach_of None = None
-breach_of (Some f) = Some (breach_seen f)
-
 -- the breach that an answer of the clearer names; none where it is Ok
 abbrev pub verdict_of : Result (Unit {0}) ClearFault → Option Breach
 verdict_of (Ok x) = None

@@ -24,9 +24,7 @@ pub fn clear<O: WaitOrder>(plan: &Plan, account: &mut Account) -> Result<(), Cle
 {
     let guard = Zeroed(account);
     for task in 0..plan.task_count() {
-        if let Some(fault) = walk_task::<O>(plan, guard.0, task) {
-            return Err(fault);
-        }
+        walk_task::<O>(plan, guard.0, task)?;
     }
     Ok(())
 }

@@ -23,34 +23,27 @@ fn judge_receive<O: WaitOrder>(plan: &Plan, account: &Account, channel: usize) -
             object: channel,
         });
     }
-    match barring::<O>(plan, account, channel) {
-        Some(object) => Some(Offence {
-            rule: Rule::ReceiveBarred,
-            object,
-        }),
-        None => None,
-    }
+    let object = barring::<O>(plan, account, channel)?;
+    Some(Offence {
+        rule: Rule::ReceiveBarred,
+        object,
+    })
 }
 
 fn judge_acquire<O: WaitOrder>(plan: &Plan, account: &Account, lock: usize) -> Option<Offence>
     ensures { offence_seen result ≡ breach (program_of O.WaitOrder.made (records_in plan.now.sheet.now)) O.WaitOrder.below (acquire lock) (count_of account.now) (held_by account.now) }
 {
-    match barring::<O>(plan, account, lock) {
-        Some(object) => Some(Offence {
-            rule: Rule::AcquireBarred,
-            object,
-        }),
-        None => None,
-    }
+    let object = barring::<O>(plan, account, lock)?;
+    Some(Offence {
+        rule: Rule::AcquireBarred,
+        object,
+    })
 }
 
 fn judge_release<O: WaitOrder>(plan: &Plan, account: &Account, lock: usize) -> Option<Offence>
     ensures { offence_seen result ≡ breach (program_of O.WaitOrder.made (records_in plan.now.sheet.now)) O.WaitOrder.below (release lock) (count_of account.now) (held_by account.now) }
 {
-    if account.holds(lock) {
-        return None;
-    }
-    Some(Offence {
+    (!account.holds(lock)).then_some(Offence {
         rule: Rule::NotHeld,
         object: lock,
     })
@@ -66,13 +59,11 @@ fn judge_closing<O: WaitOrder>(plan: &Plan, account: &Account) -> Option<Offence
             object,
         });
     }
-    match first_held(account, objects) {
-        Some(object) => Some(Offence {
-            rule: Rule::Holding,
-            object,
-        }),
-        None => None,
-    }
+    let object = first_held(account, objects)?;
+    Some(Offence {
+        rule: Rule::Holding,
+        object,
+    })
 }
 
 // The rule that a step breaks with this account, if any.
