@@ -1,5 +1,5 @@
 -- The faults of clearing, as the model says them.
-use Rattle.std.specs.Prelude.{ℕ, Some, None, Ok, Err, Option, Result}
+use Rattle.std.specs.Prelude.{Some, None, Ok, Err, Option, Result}
 use Rattle.records.specs.declared.fault.Layer.{Layer}
 use Rattle.records.specs.declared.fault.Layer.TheVariants.{Clearing}
 use Rattle.rules.specs.Offences.{rule_number}

@@ -1,33 +1,48 @@
-use Rattle.std.proofs.Common.{◌≡◌, Some, None, sym, ap, ◌∙◌, arith, rules}
+use Rattle.std.proofs.Common.{◌≡◌, Err, sym, ap, ◌∙◌, arith, rules}
 use Rattle.plan.specs.Plans.{records_in}
 use Rattle.plan.specs.Program.{program_of}
 use Rattle.clearer.specs.Breach.{task_breach}
+use Rattle.clearer.specs.Faults.{breach_seen, verdict_of}
+use Rattle.clearer.proofs.Hits.{left_all, left_found, left_more, left_none}
+use Rattle.clearer.proofs.Verdict.{found-first, found-uncleared, none-cleared}
 use Rattle.clearer.proofs.clearing.clear.Goals as goal
 
--- src/clearing.rt:26:5
 pub loop-task-init : goal.loop-task-init
-loop-task-init g c = ?
+loop-task-init g c =
+    let P = program_of g.O.WaitOrder.made (records_in c.args.plan.now.sheet.now) in
+    left_all (task_breach P g.O.WaitOrder.below) P.threads
 
--- src/clearing.rt:27:9
 pub returns-in_err-walk_task-clause-exact : goal.returns-in_err-walk_task-clause-exact
-returns-in_err-walk_task-clause-exact g c = ?
+returns-in_err-walk_task-clause-exact g c =
+    let P = program_of g.O.WaitOrder.made (records_in c.args.plan.now.sheet.now) in
+    let fault = c.in_err-walk_task.field-0.0 in
+    let is : c.from_residual.result ≡ Err fault = search rules in
+    ap verdict_of is
+    ∙ sym
+    (c.loop-task.invariant
+    ∙ left_found (task_breach P g.O.WaitOrder.below) c.loop-task.task P.threads (breach_seen fault) (omega (arith, c.loop-task-test.true, c.task_count-task-end.ensures)) (sym c.in_err-walk_task.ensures))
 
--- src/clearing.rt:27:9
 pub returns-in_err-walk_task-clause-cleared : goal.returns-in_err-walk_task-clause-cleared
-returns-in_err-walk_task-clause-cleared g c = ?
+returns-in_err-walk_task-clause-cleared g c =
+    found-uncleared (program_of g.O.WaitOrder.made (records_in c.args.plan.now.sheet.now)) g.O.WaitOrder.below c.from_residual.result (returns-in_err-walk_task-clause-exact g c)
 
--- src/clearing.rt:27:9
 pub returns-in_err-walk_task-clause-first : goal.returns-in_err-walk_task-clause-first
-returns-in_err-walk_task-clause-first g c = ?
+returns-in_err-walk_task-clause-first g c =
+    found-first (program_of g.O.WaitOrder.made (records_in c.args.plan.now.sheet.now)) g.O.WaitOrder.below c.from_residual.result (returns-in_err-walk_task-clause-exact g c)
 
--- src/clearing.rt:26:5
 pub loop-task-preserved : goal.loop-task-preserved
-loop-task-preserved g c = ?
+loop-task-preserved g c =
+    let P = program_of g.O.WaitOrder.made (records_in c.args.plan.now.sheet.now) in
+    c.loop-task.invariant
+    ∙ left_more (task_breach P g.O.WaitOrder.below) c.loop-task.task P.threads (omega (arith, c.loop-task-test.true, c.task_count-task-end.ensures)) (sym c.in_ok-walk_task.ensures)
 
--- src/clearing.rt:19:1
 pub returns-clause-exact : goal.returns-clause-exact
-returns-clause-exact g c = ?
+returns-clause-exact g c =
+    let P = program_of g.O.WaitOrder.made (records_in c.args.plan.now.sheet.now) in
+    sym (c.loop-task.invariant ∙ left_none (task_breach P g.O.WaitOrder.below) c.loop-task.task P.threads (omega (arith, c.loop-task-test.false, c.task_count-task-end.ensures)))
 
--- src/clearing.rt:19:1
 pub returns-clause-cleared : goal.returns-clause-cleared
-returns-clause-cleared g c = ?
+returns-clause-cleared g c =
+    let P = program_of g.O.WaitOrder.made (records_in c.args.plan.now.sheet.now) in
+    none-cleared P g.O.WaitOrder.below
+    (c.loop-task.invariant ∙ left_none (task_breach P g.O.WaitOrder.below) c.loop-task.task P.threads (omega (arith, c.loop-task-test.false, c.task_count-task-end.ensures)))

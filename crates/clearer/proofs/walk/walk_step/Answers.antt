@@ -1,5 +1,4 @@
-use Rattle.std.proofs.Common.{◌≡◌, length, Some, sym, ap, ◌∙◌, rules}
-use Rattle.model.specs.Rules.{Offence}
+use Rattle.std.proofs.Common.{Some, sym, ap, ◌∙◌}
 use Rattle.plan.specs.Plans.{records_in}
 use Rattle.plan.specs.Program.{program_of}
 use Rattle.plan.specs.Steps.{step_seen}
