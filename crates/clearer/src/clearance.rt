@@ -13,6 +13,7 @@ use std::marker::PhantomData;
 pub struct Clearance<'a, O: WaitOrder> {
     plan: Plan<'a>,
     order: PhantomData<O>,
+    ghost cleared: { Cleared (program_of O.WaitOrder.made (records_in plan.sheet.now)) O.WaitOrder.below },
 }
 
 impl<'a, O: WaitOrder> Clearance<'a, O> {
@@ -30,7 +31,8 @@ impl<'a, O: WaitOrder> Clearance<'a, O> {
 
     // The plan that was cleared.
     pub fn plan(&self) -> &Plan<'a>
-        ensures { result.now ≡ self.now.plan }
+        ensures plan { result.now ≡ self.now.plan }
+        ensures cleared { Cleared (program_of O.WaitOrder.made (records_in result.now.sheet.now)) O.WaitOrder.below }
     {
         &self.plan
     }
