@@ -7,7 +7,7 @@ use records::Record;
 
 #[derive(Clone, Copy)]
 pub enum Section {
-    // before the first line
+    // before the first line; a section like the others, since it admits a letter
     Nothing,
     Header,
     // channels and locks

@@ -102,6 +102,8 @@ impl Lists {
         }
     }
 
+    // The two that follow differ in the list, in what is added, and in what it is made of: one for both would take all three.
+
     // Adds the object that the record declares, if it declares one.
     fn note_object(&mut self, row: Record)
         requires { is_object row ≡ true → length self.old.objects < 32 }
@@ -155,6 +157,7 @@ impl Lists {
     {
         let mut lists = Lists::new();
         for row in records {
+            // a record without room is left out; there is none where the clause speaks
             let _ = lists.push(*row);
         }
         lists
