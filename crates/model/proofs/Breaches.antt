@@ -1,9 +1,11 @@
 -- What is legal breaks no rule, and what breaks none is legal. Assumes nothing.
-use Rattle.std.proofs.Common.{◌≡◌, ℕ, zero, suc, ◌<◌, ◌≤◌, Bool, true, false, cond, not, ◌&&◌, ◌||◌, T, List, [], ◌∷◌, length, pos, ◌≤ℤ◌, Some, None, Option, sym, refl, ap, ◌∙◌, subst, inl, inr, arith}
+use Rattle.std.proofs.Common.{◌≡◌, ℕ, zero, suc, ◌<◌, ◌≤◌, Bool, true, false, not, ◌&&◌, ◌||◌, T, List, [], ◌∷◌, length, pos, ◌≤ℤ◌, Some, None, Option, sym, refl, ap, ◌∙◌, subst, inl, inr, arith}
 use lib.Signed.{le_z, lt_z}
+use Rattle.std.proofs.lemmas.Bool.{cond-true, cond-false}
+use Rattle.std.proofs.lemmas.Float.{T_from_true}
 use Rattle.model.specs.Program.{Op, send, receive, acquire, release, start, Account, Locks, Program, Step, operation, closing, step_at}
 use Rattle.model.specs.Rules.{Offence, first_number_from, breaks, or_else, owes, busy, account_at, locks_at, unsettled, bars, breach, offence, Cleared}
-use Rattle.model.proofs.Searches.{not_none, is_true, true_is, false_is, first-none, none_first}
+use Rattle.model.proofs.Searches.{not_none, is_true, false_is, first-none, none_first}
 use Rattle.model.proofs.Tools.{At, Busy, Settled, Under, Permitted, Walkable}
 use Rattle.model.proofs.Walks.{at-below}
 
@@ -56,8 +58,8 @@ module _ {Level Message : Type 0} (P : Program Level Message) where
   busy-fact a h x t = go (lt_z (a x) (pos 0)) refl (h x) refl t
     where
       go : (b : Bool) → lt_z (a x) (pos 0) ≡ b → (c : Bool) → h x ≡ c → T (b || c) → Busy a h x
-      go true e c f t = inl (record { lt = true_is _ e })
-      go false e true f t = inr (true_is _ f)
+      go true e c f t = inl (record { lt = T_from_true _ e })
+      go false e true f t = inr (T_from_true _ f)
       go false e false f t = absurd t
 
   pub fact-busy : (a : Account) (h : Locks) (x : ℕ) → Busy a h x → T (busy a h x)
@@ -83,24 +85,24 @@ module _ {Level Message : Type 0} (P : Program Level Message) where
       where
         go : (x : ℕ) → x < P.objects → (b : Bool) → busy a h x ≡ b → (c : Bool) → below (P.level x) (P.level o) ≡ c → T (b && not c) → ⊥
         go x l true e true f t = t
-        go x l true e false f t = false_is _ f (u x l (busy-fact a h x (true_is _ e)))
+        go x l true e false f t = false_is _ f (u x l (busy-fact a h x (T_from_true _ e)))
         go x l false e c f t = t
 
     first_under : (o : ℕ) (a : Account) (h : Locks) → first_number_from (bars P below o a h) 0 P.objects ≡ None → Under P below o a h
     first_under o a h e x l b = go (below (P.level x) (P.level o)) refl
       where
         go : (c : Bool) → below (P.level x) (P.level o) ≡ c → T (below (P.level x) (P.level o))
-        go true f = true_is _ f
+        go true f = T_from_true _ f
         go false f = absurd (none_first (bars P below o a h) 0 P.objects e x (omega arith) (omega arith)
             (subst (λ (c : Bool). T (busy a h x && not c)) (sym f) (subst (λ (d : Bool). T (d && true)) (sym (is_true _ (fact-busy a h x b))) tt)))
 
     pub legal-none : (o : Op Message) (a : Account) (h : Locks) → Permitted P below o a h → breach P below o a h ≡ None
     legal-none (send c m) a h l = refl
     legal-none (receive c) a h l =
-        ap (λ (b : Bool). cond b (breaks 22 (first_number_from (bars P below c a h) 0 P.objects)) (Some (record { number = 21; object = c }))) (is_true _ l.0.le)
+        cond-true _ _ (Some (record { number = 21; object = c })) (is_true _ l.0.le)
         ∙ ap (breaks 22) (under_first c a h l.1)
     legal-none (acquire k) a h l = ap (breaks 23) (under_first k a h l)
-    legal-none (release k) a h l = ap (λ (b : Bool). cond b None (Some (record { number = 24; object = k }))) (is_true _ l)
+    legal-none (release k) a h l = cond-true (h k) None _ (is_true _ l)
     legal-none (start u) a h l = refl
 
     pub none-legal : (o : Op Message) (a : Account) (h : Locks) → breach P below o a h ≡ None → Permitted P below o a h
@@ -108,14 +110,14 @@ module _ {Level Message : Type 0} (P : Program Level Message) where
     none-legal (receive c) a h e = go (le_z (pos 1) (a c)) refl
       where
         go : (b : Bool) → le_z (pos 1) (a c) ≡ b → (pos 1 ≤ℤ a c) × Under P below c a h
-        go true q = (record { le = true_is _ q }, first_under c a h (breaks-none 22 _ (sym (ap (λ (b : Bool). cond b (breaks 22 (first_number_from (bars P below c a h) 0 P.objects)) (Some (record { number = 21; object = c }))) q) ∙ e)))
-        go false q = not_none (sym (ap (λ (b : Bool). cond b (breaks 22 (first_number_from (bars P below c a h) 0 P.objects)) (Some (record { number = 21; object = c }))) q) ∙ e)
+        go true q = (record { le = T_from_true _ q }, first_under c a h (breaks-none 22 _ (sym (cond-true _ _ _ q) ∙ e)))
+        go false q = not_none (sym (cond-false _ _ _ q) ∙ e)
     none-legal (acquire k) a h e = first_under k a h (breaks-none 23 _ e)
     none-legal (release k) a h e = go (h k) refl
       where
         go : (b : Bool) → h k ≡ b → T (h k)
-        go true q = true_is _ q
-        go false q = not_none (sym (ap (λ (b : Bool). cond b None (Some (record { number = 24; object = k }))) q) ∙ e)
+        go true q = T_from_true _ q
+        go false q = not_none (sym (cond-false _ _ _ q) ∙ e)
     none-legal (start u) a h e = tt
 
     -- Cleared, by operations and closings.

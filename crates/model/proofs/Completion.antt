@@ -1,6 +1,6 @@
 -- A move that the rules grant can be made, so a cleared program can be brought home from every point. Assumes nothing.
-use Rattle.std.proofs.Common.{◌≡◌, ℕ, zero, suc, ◌+◌, ◌≤◌, Bool, true, false, cond, T, eqb, ◌≢◌, List, [], ◌∷◌, length, sym, refl, ap, ◌∙◌, subst, inl, inr, arith, eqb→eq}
-use lib.Dec.{eqb_refl}
+use Rattle.std.proofs.Common.{◌≡◌, ℕ, zero, suc, ◌+◌, ◌≤◌, Bool, cond, eqb, ◌≢◌, List, [], ◌∷◌, length, sym, refl, ap, ◌∙◌, subst, inl, inr, arith, eq-eqb, ne_eqb}
+use Rattle.std.proofs.lemmas.Bool.{cond-true, cond-false}
 use Rattle.model.specs.History.{Entry, Attempts, no_attempt, attempted, History, grants}
 use Rattle.model.specs.Machine.{running, home, Thread, Machine, granted, next_line, Delivered, Woken, Performed, Closed}
 use Rattle.model.specs.Mailbox.{MailboxKind, Take}
@@ -25,19 +25,11 @@ module _ {A : Type 0} (f : ℕ → A) (t : ℕ) (a : A) where
 
   pub replaced-here : replaced t ≡ a
   unfolding replaced
-  replaced-here = go (eqb t t) (eqb_refl t)
-    where
-      go : (b : Bool) → T b → cond b a (f t) ≡ a
-      go true h = refl
-      go false h = absurd h
+  replaced-here = cond-true (eqb t t) a (f t) (eq-eqb t t refl)
 
   pub replaced-other : (u : ℕ) → u ≢ t → replaced u ≡ f u
   unfolding replaced
-  replaced-other u ne = go (eqb u t) (λ h. ne (eqb→eq u t h))
-    where
-      go : (b : Bool) → ¬ (T b) → cond b a (f u) ≡ f u
-      go true h = absurd (h tt)
-      go false h = refl
+  replaced-other u ne = cond-false (eqb u t) a (f u) (ne_eqb u t ne)
 
 module _ {Level Message Mailbox : Type 0} (below : Level → Level → Bool) (P : Program Level Message) (F : Frame P) (K : MailboxKind Message Mailbox) (w : Machine Message Mailbox) (t : ℕ) (turn : Turn below P K w t) where
   abbrev stepped : Op Message → Message → Thread Message

@@ -1,5 +1,5 @@
 -- No two threads hold one lock. Assumes nothing.
-use Rattle.std.proofs.Common.{◌≡◌, ℕ, zero, suc, ◌<◌, Bool, true, false, cond, T, eqb, ◌⊎◌, List, sym, refl, ap, ◌∙◌, subst, inl, inr, arith, eqb→eq}
+use Rattle.std.proofs.Common.{◌≡◌, ℕ, zero, suc, ◌<◌, Bool, true, false, cond, T, eqb, ◌⊎◌, List, sym, refl, ap, ◌∙◌, subst, inl, inr, arith, eqb-true}
 use native.Mathlib.Decide.{ℕ_discrete}
 use Rattle.model.specs.History.{Opening, Entry, Attempts, no_attempt, attempted, History}
 use Rattle.model.specs.Machine.{Thread, Machine, Answer, granted, refused, breached, Performed, Closed}
@@ -7,7 +7,6 @@ use Rattle.model.specs.Mailbox.{MailboxKind}
 use Rattle.model.specs.Program.{Op, send, receive, acquire, release, start, Locks, Program}
 use Rattle.model.specs.Rules.{locked}
 use Rattle.model.proofs.Moves.{seen}
-use Rattle.model.proofs.Searches.{true_is}
 use Rattle.model.proofs.Steps.{other, wakes}
 use Rattle.model.proofs.Tools.{Frame, Ready, operates, closes, Seen}
 
@@ -23,7 +22,7 @@ module _ {Level Message Mailbox : Type 0} (below : Level → Level → Bool) (P 
   own_held (acquire l) h x k = go (eqb x l) refl k
     where
       go : (b : Bool) → eqb x l ≡ b → T (cond b true (h x)) → T (h x) ⊎ (◌≡◌ {A = Op Message} (acquire l) (acquire x))
-      go true e k = inr (ap acquire (sym (eqb→eq x l (true_is _ e))))
+      go true e k = inr (ap acquire (sym (eqb-true x l e)))
       go false e k = inl k
   own_held (release l) h x k = go (eqb x l) k
     where
