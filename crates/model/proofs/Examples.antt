@@ -1,12 +1,12 @@
 -- The two example plans: they are sound, and the first runs home. Assumes nothing.
-use Rattle.std.proofs.Common.{◌≡◌, ℕ, zero, suc, ◌<◌, ◌≤◌, false, ltb, ◌≢◌, List, [], ◌∷◌, ◌++◌, length, pos, sym, refl, ap, ◌∙◌, subst, arith}
+use Rattle.std.proofs.Common.{◌≡◌, ℕ, zero, suc, ◌<◌, ◌≤◌, false, ltb, ◌≢◌, List, [], ◌∷◌, ◌++◌, length, pos, sym, refl, ap, ◌∙◌, subst, arith, rules}
 use Rattle.model.specs.Example.{bodies, hoist, Lists, endless, went, HoistRuns, deep_bodies, deep, DeepThreads}
 use Rattle.model.specs.History.{Fresh, Opening, no_attempt, attempted}
 use Rattle.model.specs.Machine.{State, asleep, running, home, Thread, Machine, granted, Move}
 use Rattle.model.specs.Mailbox.{Take}
 use Rattle.model.specs.Program.{Op, send, receive, acquire, release, start, Account, Program, operation, step_at, same, Within, mailbox_numbers}
 use Rattle.model.specs.Promises.{Serves}
-use Rattle.model.specs.RuleExamples.{nothing, WalkExamples, MoveExamples, OpeningExamples, Examples}
+use Rattle.model.specs.RuleExamples.{nothing}
 use Rattle.model.specs.Rules.{paid, Cleared}
 use Rattle.model.specs.Threads.{main, by_thread, Sound}
 use Rattle.model.proofs.Breaches.{step_op}
@@ -58,10 +58,10 @@ pub deep-sound : Sound deep
 deep-sound = sound deep (omega arith) fits named (λ x. refl) (omega arith)
   where
     fits : (i : ℕ) → i < 4 → Each (Fits deep i) (deep_bodies i)
-    fits zero h = ((omega arith, tt), ((omega arith, tt), tt))
-    fits (suc zero) h = (omega arith, ((omega arith, tt), ((omega arith, tt), (omega arith, tt))))
-    fits (suc (suc zero)) h = (omega arith, (omega arith, tt))
-    fits (suc (suc (suc zero))) h = (omega arith, ((omega arith, tt), (omega arith, ((omega arith, tt), (omega arith, tt)))))
+    fits zero h = search rules
+    fits (suc zero) h = search rules
+    fits (suc (suc zero)) h = search rules
+    fits (suc (suc (suc zero))) h = search rules
     fits (suc (suc (suc (suc i)))) h = absurd (omega arith)
 
     named : (k : ℕ) → suc k < 4 → (i : ℕ) × (p : ℕ) × (i < 4) × (step_at (deep_bodies i) p ≡ operation (start k))
@@ -74,8 +74,8 @@ pub hoist-sound : Sound hoist
 hoist-sound = sound hoist (omega arith) fits named (λ x. refl) (omega arith)
   where
     fits : (i : ℕ) → i < 2 → Each (Fits hoist i) (bodies i)
-    fits zero h = ((omega arith, tt), ((omega arith, tt), tt))
-    fits (suc zero) h = (omega arith, ((omega arith, tt), ((omega arith, tt), tt)))
+    fits zero h = search rules
+    fits (suc zero) h = search rules
     fits (suc (suc i)) h = absurd (omega arith)
 
     named : (k : ℕ) → suc k < 2 → (i : ℕ) × (p : ℕ) × (i < 2) × (step_at (bodies i) p ≡ operation (start k))
@@ -262,45 +262,3 @@ hoist-runs = record {
 
 pub deep-threads : DeepThreads
 deep-threads = record { sound = deep-sound; tasks = refl; ops = refl; thread_count = refl; move_count = refl; send_count = refl }
-
-walk_examples : WalkExamples
-unfolding same
-walk_examples = record {
-  no_credit = refl;
-  credit_gone = refl;
-  credit_made = refl;
-  receive_barred = refl;
-  no_credit_first = refl;
-  held_already = refl;
-  incomparable = refl;
-  comparable = refl;
-  not_held = refl;
-  owed = refl;
-  held = refl;
-  owed_first = refl;
-  settled = refl;
-}
-
-move-examples : MoveExamples
-move-examples = record {
-  no_such_thread = refl;
-  no_such_thread_first = refl;
-  run_halted = refl;
-  is_asleep = refl;
-  is_home = refl;
-  starts = refl;
-  sends = refl;
-  no_room = refl;
-  receives = refl;
-  waits = refl;
-  breaches = refl;
-  closes = refl;
-  lock_free = refl;
-  lock_held = refl;
-}
-
-opening-examples : OpeningExamples
-opening-examples = record { opens = refl; waiting_elsewhere = refl; no_room = refl; waiting_first = refl }
-
-pub examples : Examples
-examples = record { walks = walk_examples; moves = move-examples; openings = opening-examples }
