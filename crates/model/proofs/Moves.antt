@@ -6,7 +6,7 @@ use Rattle.model.specs.Machine.{State, asleep, running, home, Machine, Answer, g
 use Rattle.model.specs.Mailbox.{MailboxKind}
 use Rattle.model.specs.Program.{Op, send, receive, acquire, release, start, Program, Step, operation, closing}
 use Rattle.model.specs.Promises.{GrantedOrBreached}
-use Rattle.model.specs.Rules.{Offence, first, unsettled, breach}
+use Rattle.model.specs.Rules.{Offence, unsettled, breach}
 use Rattle.model.proofs.Breaches.{step_op, op-step, step_end, end_step, settled-none, none-settled, legal-none, none-legal}
 use Rattle.model.proofs.Searches.{not_none, first-none, none_first, found_none}
 use Rattle.model.proofs.Tools.{Turn, PermittedHere, Ready, Grantable, grants-op, grants-end, Breach, breaks-op, breaks-end, Grant, operates, closes, Seen}
@@ -67,23 +67,17 @@ module _ {Level Message Mailbox : Type 0} (below : Level → Level → Bool) (P 
       done : (o : Op Message) → next_step below P K w t ≡ operation o → PermittedHere below P K w t o → Ready below P K w t o → Done P K w t w' (next_step below P K w t) → Grant below P K w t w'
       done o found legal ready d = operates turn o (step_op (P.ops t) (w.thread t).place o found) legal ready (subst (λ (s : Step Message). Done P K w t w' s) found d)
 
+      -- An operation that a test keeps is seen as refused or, where the test fails, as done.
+      unless_kept : (kept : Bool) (n : ℕ) (o : Op Message) → next_step below P K w t ≡ operation o → PermittedHere below P K w t o → (kept ≡ false → Ready below P K w t o) →
+          Sees (cond kept (refused n) (granted (next_line below P K w t)))
+      unless_kept true n o f legal ready d = d
+      unless_kept false n o f legal ready d = done o f legal (ready refl) d
+
       sees_legal : (o : Op Message) → next_step below P K w t ≡ operation o → PermittedHere below P K w t o → Sees (if_legal below P K w t (operation o))
-      sees_legal (send c x) f legal = go (eqb (K.room w.mailbox c) 0) refl
-        where
-          go : (b : Bool) → eqb (K.room w.mailbox c) 0 ≡ b → Sees (cond b (refused 36) (granted (next_line below P K w t)))
-          go true e d = d
-          go false e d = done (send c x) f legal (let ne : K.room w.mailbox c ≢ 0 = eqb-false _ 0 e in omega arith) d
-      sees_legal (receive c) f legal = go (eqb (length (K.waiting w.mailbox c)) 0) refl
-        where
-          go : (b : Bool) → eqb (length (K.waiting w.mailbox c)) 0 ≡ b → Sees (cond b (refused 35) (granted (next_line below P K w t)))
-          go true e d = d
-          go false e d = done (receive c) f legal (let ne : length (K.waiting w.mailbox c) ≢ 0 = eqb-false _ 0 e in omega arith) d
-      sees_legal (acquire l) f legal = go (found (first (holds_too below P K w t l) P.threads)) refl
-        where
-          go : (b : Bool) → found (first (holds_too below P K w t l) P.threads) ≡ b → Sees (cond b (refused 35) (granted (next_line below P K w t)))
-          go true e d = d
-          go false e d = done (acquire l) f legal
-              (λ u h ne held. none_first (holds_too below P K w t l) 0 P.threads (found_none _ e) u (omega arith) (omega arith) (held_too l u ne held)) d
+      sees_legal (send c x) f legal = unless_kept _ 36 (send c x) f legal (λ e. let ne : K.room w.mailbox c ≢ 0 = eqb-false _ 0 e in omega arith)
+      sees_legal (receive c) f legal = unless_kept _ 35 (receive c) f legal (λ e. let ne : length (K.waiting w.mailbox c) ≢ 0 = eqb-false _ 0 e in omega arith)
+      sees_legal (acquire l) f legal = unless_kept _ 35 (acquire l) f legal
+          (λ e u h ne held. none_first (holds_too below P K w t l) 0 P.threads (found_none _ e) u (omega arith) (omega arith) (held_too l u ne held))
       sees_legal (release l) f legal = λ d. done (release l) f legal tt d
       sees_legal (start u) f legal = λ d. done (start u) f legal tt d
 
