@@ -4,7 +4,7 @@ use native.Mathlib.Decide.{dec_lt}
 use Rattle.model.specs.Program.{Op, send, receive, acquire, release, start, step_at, after}
 use Rattle.model.specs.Threads.{at_start, renamed, renamed_step, load, numbered}
 use Rattle.model.proofs.Tools.{At}
-use Rattle.model.proofs.Walks.{starts-some}
+use Rattle.model.proofs.Walks.{starts-some, grows}
 
 module _ {Message : Type 0} where
   -- A renamed operation that starts t.
@@ -21,9 +21,7 @@ module _ {Message : Type 0} where
     number xs p u = after (λ o u. u + at_start 0 size o) xs p u
 
     pub number-grows : (xs : List (Op Message)) (p u : ℕ) → u ≤ number xs p u
-    number-grows xs zero u = omega arith
-    number-grows [] (suc p) u = omega arith
-    number-grows (x ∷ xs) (suc p) u = omega (arith, number-grows xs p (u + at_start 0 size x))
+    number-grows xs p u = grows (at_start 0 size) xs p u
 
     pub numbered-length : (xs : List (Op Message)) (u : ℕ) → length (numbered size u xs) ≡ length xs
     numbered-length [] u = refl

@@ -41,7 +41,7 @@ module _ {Message : Type 0} where
   after-end f (x ∷ xs) s = after-end f xs (f x s)
 
   module _ (weight : Op Message → ℕ) where
-    grows : (xs : List (Op Message)) (p k : ℕ) → k ≤ after (λ o k. k + weight o) xs p k
+    pub grows : (xs : List (Op Message)) (p k : ℕ) → k ≤ after (λ o k. k + weight o) xs p k
     grows xs zero k = omega arith
     grows [] (suc p) k = omega arith
     grows (x ∷ xs) (suc p) k = omega (arith, grows xs p (k + weight x))
