@@ -13,10 +13,10 @@ use Rattle.model.proofs.Tools.{Turn, PermittedHere, Ready, Grantable, grants-op,
 
 module _ {Level Message Mailbox : Type 0} (below : Level → Level → Bool) (P : Program Level Message) (K : MailboxKind Message Mailbox) (w : Machine Message Mailbox) (t : ℕ) where
   -- another thread that holds the lock, as a test and as a fact
-  held_too : (l u : ℕ) → u ≢ t → T ((w.thread u).locks l) → T (holds_too below P K w t l u)
+  pub held_too : (l u : ℕ) → u ≢ t → T ((w.thread u).locks l) → T (holds_too below P K w t l u)
   held_too l u ne h = subst (λ (b : Bool). T (not b && (w.thread u).locks l)) (sym (ne_eqb u t ne)) h
 
-  too_held : (l u : ℕ) → T (holds_too below P K w t l u) → (u ≢ t) × T ((w.thread u).locks l)
+  pub too_held : (l u : ℕ) → T (holds_too below P K w t l u) → (u ≢ t) × T ((w.thread u).locks l)
   too_held l u h = go (eqb u t) refl h
     where
       go : (b : Bool) → eqb u t ≡ b → T (not b && (w.thread u).locks l) → (u ≢ t) × T ((w.thread u).locks l)
