@@ -9,7 +9,8 @@ use arrayvec::ArrayVec;
 use records::limits::{MOST_LINES, MOST_OBJECTS, MOST_OPERATIONS, MOST_TASKS};
 use records::{Cause, Kind, ObjectRow, Record, TaskRow};
 
-// The letters of the lines are the cases here, as in the rules of a plan, and no enum stands between.
+// The letters of the lines are the cases here, as in the rules of a plan, and no enum stands between. The rows are made by
+// private steps and no From, since only the record of the right letter makes one.
 
 fn is_object(row: Record) -> bool
     ensures { result ≡ is_object row }

@@ -31,6 +31,8 @@ fn read_natural(field: &[u8]) -> Option<u64>
     is_natural(field).then(|| value(field))
 }
 
+// The two that follow differ in the sign and in what they refuse, as their clauses say, so they are no one function.
+
 fn not_below_zero(field: &[u8], range: Range) -> Option<i32>
     ensures { result ≡ within range.low range.high (above (natural field.now)) }
 {
