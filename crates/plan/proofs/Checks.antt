@@ -28,7 +28,7 @@ use Rattle.plan.proofs.Wholes.{lines-shown}
 
 -- a test that refuses, refuses nothing that went through
 held : {A E : Type 0} (b : Bool) (x y : A) (f : E) → cond b (Err f) (Ok x) ≡ Ok y → b ≡ false
-held true x y f e = let z : ◌≡◌ {A = ℕ} 0 1 = cc in absurd (omega arith)
+held true x y f e = cc
 held false x y f e = refl
 
 started-at : (rs : List Record) (m : ℕ) (ts : List TaskRow) (u : Unit {0}) → started_from rs m ts ≡ Ok u → (k : ℕ) → m ≤ k → k < m + length ts → some (is_start_of k) rs ≡ true
@@ -40,7 +40,7 @@ started-at rs m (t ∷ ts) u e k h l =
           (λ (same : m ≡ k). subst (λ n. some (is_start_of n) rs ≡ true) same here)
           (λ (other : m ≡ k → ⊥). started-at rs (m + 1) ts u rest k (omega arith) (omega arith))
           (cases_eq m k)
-      | false ↦ λ here rest. let z : ◌≡◌ {A = ℕ} 0 1 = cc in absurd (omega arith)
+      | false ↦ λ here rest. cc
     ]) refl e
 
 some_left : {A : Type 0} (p : A → Bool) (xs ys : List A) → some p xs ≡ true → some p (xs ++ ys) ≡ true

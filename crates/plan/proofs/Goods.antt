@@ -32,7 +32,7 @@ ok_is x y e = cc
 
 -- what a search finds stands in the list
 first_below : {A : Type 0} (p : A → Bool) (xs : List A) (i n : ℕ) → first_from i p xs ≡ Some n → n < i + length xs
-first_below p [] i n e = let z : ◌≡◌ {A = ℕ} 0 1 = cc in absurd (omega arith)
+first_below p [] i n e = cc
 first_below p (x ∷ xs) i n e =
     (elim (p x) as (λ b. cond b (Some i) (first_from (i + 1) p xs) ≡ Some n → n < i + suc (length xs)) [
       | true ↦ λ f. let same : i ≡ n = cc in omega arith
@@ -48,17 +48,17 @@ lock_kind Channel e = sym e
 lock_kind Lock e = refl
 
 kind_found : (rows : List ObjectRow) (kind : Kind) (o : Option ℕ) (x : ℕ) → is_kind rows kind o ≡ Ok x → (o ≡ Some x) × (same_kind (get_or rows x no_object).kind kind ≡ true)
-kind_found rows kind None x e = let z : ◌≡◌ {A = ℕ} 0 1 = cc in absurd (omega arith)
+kind_found rows kind None x e = cc
 kind_found rows kind (Some i) x e =
     let t = let_through (same_kind (get_or rows i no_object).kind kind) i x Unknown e in
     (ap Some t.1, subst (λ y. same_kind (get_or rows y no_object).kind kind ≡ true) t.1 t.0)
 
 option_ok : {A E : Type 0} (o : Option A) (f : E) (x : A) → ok_or o f ≡ Ok x → o ≡ Some x
-option_ok None f x e = let z : ◌≡◌ {A = ℕ} 0 1 = cc in absurd (omega arith)
+option_ok None f x e = cc
 option_ok (Some y) f x e = cc
 
 between : (low high : ℤ) (o : Option ℤ) (z : ℤ) → within low high o ≡ Some z → Between low high z
-between low high None z e = let n : ◌≡◌ {A = ℕ} 0 1 = cc in absurd (omega arith)
+between low high None z e = cc
 between low high (Some y) z e = go (le_z low y && le_z y high) refl e
   where
     go : (b : Bool) → (le_z low y && le_z y high) ≡ b → cond b (Some y) None ≡ Some z → Between low high z
@@ -66,12 +66,12 @@ between low high (Some y) z e = go (le_z low y && le_z y high) refl e
         let same : y ≡ z = cc in
         let t = and_parts _ _ h in
         subst (Between low high) same (le_z_yes (subst T (sym t.0) tt), le_z_yes (subst T (sym t.1) tt))
-    go false h f = let n : ◌≡◌ {A = ℕ} 0 1 = cc in absurd (omega arith)
+    go false h f = cc
 
 not_zero_lem : (z : ℤ) → not_zero z ≡ Ok tt → z ≡ pos 0 → ⊥
-not_zero_lem (pos zero) e h = let n : ◌≡◌ {A = ℕ} 0 1 = cc in omega arith
-not_zero_lem (pos (suc m)) e h = let n : suc m ≡ 0 = cc in omega arith
-not_zero_lem (negsuc m) e h = let n : ◌≡◌ {A = ℕ} 0 1 = cc in omega arith
+not_zero_lem (pos zero) e h = cc
+not_zero_lem (pos (suc m)) e h = cc
+not_zero_lem (negsuc m) e h = cc
 
 module _ (text : List ℕ) (rs : List Record) where
   object-below : (p : Place) (x : ℕ) → object_named (before text rs) p ≡ Some x → x < length (objects_of rs)
@@ -238,7 +238,7 @@ module _ (o : Written) (text : List ℕ) (rs : List Record) (l : Line) (r : Reco
       either c (byte "A") _ _ f e8 acquire-good (λ e9.
       either c (byte "L") _ _ f e9 release-good (λ e10.
       either c (byte "F") _ _ f e10 start-good (λ e11.
-      let z : ◌≡◌ {A = ℕ} 0 1 = cc in absurd (omega arith))))))))))))
+      cc)))))))))))
 
   -- the record of a line that was read
   pub line-good : read_line o (before text rs) l ≡ Ok r → Good rs r
@@ -249,7 +249,7 @@ module _ (o : Written) (text : List ℕ) (rs : List Record) (l : Line) (r : Reco
       letter_good b.0 (subst Follows t.1 t.0) b.2
 
 placed-line : (rs : List Record) (v : Result Record Cause) (r : Record) → placed rs v ≡ Ok r → v ≡ Ok r
-placed-line rs (Err c) r e = let z : ◌≡◌ {A = ℕ} 0 1 = cc in absurd (omega arith)
+placed-line rs (Err c) r e = cc
 placed-line rs (Ok x) r e = let p = let_through (has_room rs x) x r _ e in ap Ok p.1
 
 next-good : (o : Written) (text : List ℕ) (rs : List Record) (l : Line) (r : Record) → read_next o text rs l ≡ Ok r → Good rs r

@@ -15,15 +15,15 @@ use Rattle.reader.proofs.Sheets.{extends}
 -- what a test lets through, it lets through because it holds
 pub let_through : {A E : Type 0} (b : Bool) (x y : A) (f : E) → cond b (Ok x) (Err f) ≡ Ok y → (b ≡ true) × (x ≡ y)
 let_through true x y f e = (refl, cc)
-let_through false x y f e = let z : ◌≡◌ {A = ℕ} 0 1 = cc in absurd (omega arith)
+let_through false x y f e = cc
 
 -- the steps of a chain that went through
 pub and_ok : {A B E : Type 0} (v : Result A E) (f : A → Result B E) (y : B) → and_then v f ≡ Ok y → (x : A) × (v ≡ Ok x) × (f x ≡ Ok y)
 and_ok (Ok x) f y e = (x, refl, e)
-and_ok (Err c) f y e = let z : ◌≡◌ {A = ℕ} 0 1 = cc in absurd (omega arith)
+and_ok (Err c) f y e = cc
 
 placed-room : (rs : List Record) (v : Result Record Cause) (r : Record) → placed rs v ≡ Ok r → has_room rs r ≡ true
-placed-room rs (Err c) r e = let z : ◌≡◌ {A = ℕ} 0 1 = cc in absurd (omega arith)
+placed-room rs (Err c) r e = cc
 placed-room rs (Ok x) r e = let p = let_through (has_room rs x) x r _ e in subst (λ y. has_room rs y ≡ true) p.1 p.0
 
 next-room : (o : Written) (text : List ℕ) (rs : List Record) (l : Line) (r : Record) → read_next o text rs l ≡ Ok r → has_room rs r ≡ true
@@ -58,7 +58,7 @@ module _ (o : Written) (text : List ℕ) (P : List Record → Record → Type 0)
             (subst (P rs) (sym (found_here all rs r t.0 t.1)) (each rs l r here)) in
             subst (λ n. P (take n all) (get_or all n blank)) same this)
             (cases_lt (length rs) i)
-        | Err f ↦ λ here rest. let z : ◌≡◌ {A = ℕ} 0 1 = cc in absurd (omega arith)
+        | Err f ↦ λ here rest. cc
       ]) refl e
 
   pub all_read : (ls : List Line) (all : List Record) → read_rest o text [] ls ≡ Ok all → (i : ℕ) → i < length all → P (take i all) (get_or all i blank)

@@ -16,7 +16,7 @@ use Rattle.plan.proofs.Sections.{no, operation_letter, operation_no_blank, opera
 -- the steps of a list of operation records
 
 pub step_from : (xs : List Record) (p : ℕ) (o : Op ℕ) → step_at (map op_of xs) p ≡ operation o → (p < length xs) × (op_of (get_or xs p blank) ≡ o)
-step_from [] p o e = let z : ◌≡◌ {A = ℕ} 0 1 = cc in absurd (omega arith)
+step_from [] p o e = cc
 step_from (x ∷ xs) zero o e = (omega arith, cc)
 step_from (x ∷ xs) (suc p) o e = let r = step_from xs p o e in (omega (arith, r.0), r.1)
 
@@ -90,10 +90,10 @@ module _ (rs : List Record) (C : Checked rs) where
         let r = get_or (body_of rs (tasks_of rs) i) p blank in
         let a = start-above i p h s.0 in
         op_cases (λ o. o ≡ start k → k < i) r a.0
-        (λ _ f. let z : ◌≡◌ {A = ℕ} 0 1 = cc in absurd (omega arith))
-        (λ _ f. let z : ◌≡◌ {A = ℕ} 0 1 = cc in absurd (omega arith))
-        (λ _ f. let z : ◌≡◌ {A = ℕ} 0 1 = cc in absurd (omega arith))
-        (λ _ f. let z : ◌≡◌ {A = ℕ} 0 1 = cc in absurd (omega arith))
+        (λ _ f. cc)
+        (λ _ f. cc)
+        (λ _ f. cc)
+        (λ _ f. cc)
         (λ is f. let same : r.first ≡ k = cc in omega (arith, a.1 is, same))
         s.1
 
