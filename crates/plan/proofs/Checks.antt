@@ -9,7 +9,8 @@ use lib.Dec.{T_prop}
 use lib.Signed.{le_z}
 use Rattle.std.specs.List.{prefix_len}
 use Rattle.std.proofs.lemmas.List.{get_or_append_left, get_or-append_right, get_or-replicate, length-append, length-replicate, length-take-le, take-append-le}
-use Rattle.std.proofs.lemmas.Bool.{cases_eq, cases_lt, eqb-false, eqb-true, false≢true}
+use Rattle.std.proofs.lemmas.List.Folds.{list_any-append}
+use Rattle.std.proofs.lemmas.Bool.{cases_eq, eqb-false, eqb-true, or_left}
 use Rattle.records.specs.declared.fault.ReadFault.{ReadFault}
 use Rattle.records.specs.declared.record.Record.{Record}
 use Rattle.records.specs.declared.rows.TaskRow.{TaskRow}
@@ -23,7 +24,7 @@ use Rattle.plan.specs.Good.{Between, Checked, Good, Uses}
 use Rattle.plan.specs.Plans.{WasRead, records_in}
 use Rattle.plan.proofs.Blanks.{leading_from, tasks_blanks}
 use Rattle.plan.proofs.Goods.{all-good}
-use Rattle.plan.proofs.Rooms.{all-roomy, and_ok, let_through, roomy-blank}
+use Rattle.plan.proofs.Rooms.{all-roomy, and_ok, let_through, roomy-blank, with_blanks}
 use Rattle.plan.proofs.Wholes.{lines-shown}
 
 -- a test that refuses, refuses nothing that went through
@@ -43,25 +44,6 @@ started-at rs m (t ∷ ts) u e k h l =
       | false ↦ λ here rest. cc
     ]) refl e
 
-some_left : {A : Type 0} (p : A → Bool) (xs ys : List A) → some p xs ≡ true → some p (xs ++ ys) ≡ true
-some_left p [] ys e = absurd (false≢true e)
-some_left p (x ∷ xs) ys e =
-    (elim (p x) as (λ b. (b || some p xs) ≡ true → (b || some p (xs ++ ys)) ≡ true) [ true ↦ λ f. refl | false ↦ λ f. some_left p xs ys f ]) e
-
-good_blanks : (rs : List Record) (n : ℕ) → ((i : ℕ) → i < length rs → Good (take i rs) (get_or rs i blank))
-    → (i : ℕ) → i < length (rs ++ replicate n blank) → ((get_or (rs ++ replicate n blank) i blank).letter ≡ 0 → ⊥) → Good (take i (rs ++ replicate n blank)) (get_or (rs ++ replicate n blank) i blank)
-good_blanks rs n good i h written =
-    ⊎_elim
-    (λ (here : i < length rs).
-    subst (λ xs. Good xs (get_or (rs ++ replicate n blank) i blank)) (sym (take-append-le i rs (replicate n blank) (omega arith)))
-    (subst (Good (take i rs)) (sym (get_or_append_left rs (replicate n blank) blank i here)) (good i here)))
-    (λ (past : length rs ≤ i).
-    let at : get_or (rs ++ replicate n blank) i blank ≡ blank =
-    get_or-append_right rs (replicate n blank) (length rs) i blank refl past
-    ∙ get_or-replicate n (i - length rs) blank blank (omega (arith, length-append rs (replicate n blank), length-replicate n blank)) in
-    absurd (written (ap (λ (r : Record). r.letter) at)))
-    (cases_lt i (length rs))
-
 -- the records of a text, and any number of blank ones
 checked_blanks : (rs : List Record) (n : ℕ) → ((i : ℕ) → i < length rs → Good (take i rs) (get_or rs i blank)) → Roomy rs → length rs + n ≤ 800 → finished rs (tasks_of rs) ≡ Ok tt
     → Checked (rs ++ replicate n blank)
@@ -75,10 +57,10 @@ checked_blanks rs n good room few done =
     let has_task : 0 < length tasks = omega (arith, none) in
     let main = eqb-true _ _ (let_through (eqb (prefix_len is_count (drop (last_task_line tasks) rs)) 0) tt c.0 _ c.1).0 in
     record {
-      good = good_blanks rs n good;
+      good = λ i h written. ⊎_elim (λ g. g) (λ is. absurd (written (ap (λ (r : Record). r.letter) is))) (with_blanks Good rs n good i h);
       roomy = roomy-blank rs n room few;
       has_task = omega (arith, has_task, ap length same);
-      started = λ k h. some_left (is_start_of k) rs (replicate n blank)
+      started = λ k h. list_any-append (is_start_of k) rs (replicate n blank) ∙ or_left _ _
           (started-at rs 0 (take (length tasks - 1) tasks) b.0 b.1 k (omega arith) (omega (arith, h, ap length same, length-take-le (length tasks - 1) tasks (omega arith))));
       main_counts = leading_from is_count refl (last_task_line (tasks_of (rs ++ replicate n blank))) rs n ∙ ap (λ ts. prefix_len is_count (drop (last_task_line ts) rs)) same ∙ main;
     }
