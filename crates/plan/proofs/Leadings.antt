@@ -2,47 +2,41 @@
 use Rattle.std.proofs.Common.{◌≡◌, ℕ, zero, suc, ◌+◌, ◌<◌, ◌≤◌, Bool, true, false, cond, List, [], ◌∷◌, ◌++◌, length, get_or, take, drop, sym, refl, ap, ◌∙◌, ⊎_elim, arith}
 use Rattle.std.specs.List.{prefix_len}
 use Rattle.std.proofs.lemmas.List.{get_or_at, get_or-drop, length-append, length-drop, length_push, length-take-le, take_all, take-append-drop, take_more, drop_more}
-use Rattle.std.proofs.lemmas.List.Sums.{prefix_len-le-length}
-use Rattle.std.proofs.lemmas.Bool.{both_ways, cases_Bool, cases_eq, cond-true, cond-false}
+use Rattle.std.proofs.lemmas.List.Sums.{prefix_len-le-length, prefix_len_passes, prefix_len_stops}
+use Rattle.std.proofs.lemmas.Bool.{both_ways, cases_Bool, cases_eq, cases_lt, cond-true, cond-false}
 use Rattle.records.specs.declared.record.Record.{Record}
 use Rattle.records.specs.declared.rows.TaskRow.{TaskRow}
 use Rattle.tasks.specs.Records.{blank, is_task, no_task, task_row, tasks_from, tasks_in, tasks_of}
 use Rattle.tasks.specs.Threads.{front}
 use Rattle.tasks.proofs.Pushed.{tasks_push}
 
-module _ {A : Type 0} (p : A → Bool) (d : A) where
+-- the front of the elements from place m on
+module _ {A : Type 0} (p : A → Bool) (d : A) (xs : List A) (m : ℕ) where
   -- an element of the front
-  pub leading_at : (xs : List A) (i : ℕ) → i < prefix_len p xs → (i < length xs) × (p (get_or xs i d) ≡ true)
-  leading_at [] i h = absurd (omega arith)
-  leading_at (x ∷ xs) i h =
-      (elim (p x) as (λ b. p x ≡ b → i < cond b (1 + prefix_len p xs) 0 → (i < suc (length xs)) × (p (get_or (x ∷ xs) i d) ≡ true)) [
-        | true ↦ λ e l. here i e l (λ j m. leading_at xs j m)
-        | false ↦ λ e l. absurd (omega arith)
-      ]) refl h
-    where
-      here : (i : ℕ) → p x ≡ true → i < 1 + prefix_len p xs → ((j : ℕ) → j < prefix_len p xs → (j < length xs) × (p (get_or xs j d) ≡ true)) → (i < suc (length xs)) × (p (get_or (x ∷ xs) i d) ≡ true)
-      here zero e l rest = (omega arith, e)
-      here (suc j) e l rest = let r = rest j (omega arith) in (omega (arith, r.0), r.1)
+  pub leading_at : (i : ℕ) → i < prefix_len p (drop m xs) → (m + i < length xs) × (p (get_or xs (m + i) d) ≡ true)
+  leading_at i h = (
+    omega (arith, prefix_len-le-length p (drop m xs), length-drop m xs),
+    ap p (sym (get_or-drop m xs i d)) ∙ prefix_len_passes p (drop m xs) i d h,
+  )
 
   -- the front goes on with an element that passes
-  pub leading_on : (xs : List A) (i : ℕ) → i ≤ prefix_len p xs → i < length xs → p (get_or xs i d) ≡ true → i < prefix_len p xs
-  leading_on [] i h l e = absurd (omega arith)
-  leading_on (x ∷ xs) zero h l e = let z = cond-true (p x) (1 + prefix_len p xs) 0 e in omega arith
-  leading_on (x ∷ xs) (suc i) h l e =
-      (elim (p x) as (λ b. suc i ≤ cond b (1 + prefix_len p xs) 0 → suc i < cond b (1 + prefix_len p xs) 0) [
-        | true ↦ λ k. omega (arith, leading_on xs i (omega arith) (omega arith) e)
-        | false ↦ λ k. absurd (omega arith)
-      ]) h
+  pub leading_on : (i k : ℕ) → m + i ≡ k → i ≤ prefix_len p (drop m xs) → k < length xs → p (get_or xs k d) ≡ true → i < prefix_len p (drop m xs)
+  leading_on i k e h l passes =
+      ⊎_elim (λ (more : i < prefix_len p (drop m xs)). more)
+      (λ (end : prefix_len p (drop m xs) ≤ i).
+      let last : m + prefix_len p (drop m xs) ≡ k = omega arith in
+      let fails : p (get_or xs k d) ≡ false =
+      ap (λ n. p (get_or xs n d)) (sym last) ∙ ap p (sym (get_or-drop m xs _ d)) ∙ prefix_len_stops p (drop m xs) d (omega (arith, length-drop m xs)) in
+      absurd (both_ways _ fails passes))
+      (cases_lt i (prefix_len p (drop m xs)))
 
   -- and ends before one that does not
-  pub leading_stops : (xs : List A) (i : ℕ) → i ≤ prefix_len p xs → p (get_or xs i d) ≡ false → prefix_len p xs ≡ i
-  leading_stops xs i h e =
-      ⊎_elim (λ (same : prefix_len p xs ≡ i). same)
-      (λ (more : prefix_len p xs ≡ i → ⊥). absurd (both_ways _ e (leading_at xs i (omega arith)).1))
-      (cases_eq (prefix_len p xs) i)
-
-  pub front_length : (xs : List A) → length (front p xs) ≡ prefix_len p xs
-  front_length xs = length-take-le (prefix_len p xs) xs (prefix_len-le-length p xs)
+  pub leading_stops : (i k : ℕ) → m + i ≡ k → i ≤ prefix_len p (drop m xs) → p (get_or xs k d) ≡ false → prefix_len p (drop m xs) ≡ i
+  leading_stops i k e h fails =
+      ⊎_elim
+      (λ (more : i < prefix_len p (drop m xs)). absurd (both_ways _ fails (ap (λ n. p (get_or xs n d)) (sym e) ∙ (leading_at i more).1)))
+      (λ (end : prefix_len p (drop m xs) ≤ i). omega arith)
+      (cases_lt i (prefix_len p (drop m xs)))
 
 -- the T lines among the first i records
 abbrev pub tasks_by : List Record → ℕ → ℕ
@@ -120,9 +114,8 @@ module _ (rs : List Record) where
   by_run p other m zero h = ap (tasks_by rs) (omega arith)
   by_run p other m (suc n) h =
       let next : m + suc n ≡ m + n + 1 = omega arith in
-      let at = leading_at p blank (drop m rs) n (omega arith) in
-      let here : p (get_or rs (m + n) blank) ≡ true = ap p (sym (get_or-drop m rs n blank)) ∙ at.1 in
-      ap (tasks_by rs) next ∙ by_other (m + n) (omega (arith, at.0, length-drop m rs)) (other _ here) ∙ by_run p other m n (omega arith)
+      let at = leading_at p blank rs m n (omega arith) in
+      ap (tasks_by rs) next ∙ by_other (m + n) at.0 (other _ at.1) ∙ by_run p other m n (omega arith)
 
 -- the T line of task k: its index, how many tasks come before it, and the line of its row
 pub record TaskLine (rs : List Record) (k : ℕ) : Type 0 where

@@ -3,6 +3,7 @@ use Rattle.std.proofs.Common.{◌≡◌, ℕ, suc, ◌+◌, ◌<◌, ◌≤◌, 
 use lib.Signed.{le_z_yes}
 use Rattle.std.specs.List.{prefix_len}
 use Rattle.std.proofs.lemmas.List.{get_or-drop, get_or-take, length-drop, length-map}
+use Rattle.std.proofs.lemmas.List.Folds.{length-prefix_len}
 use Rattle.std.proofs.lemmas.Int.{ints}
 use Rattle.std.proofs.lemmas.Bool.{and_parts, eqb-true}
 use Rattle.model.specs.Accounts.{Near}
@@ -14,7 +15,7 @@ use Rattle.text.specs.Text.{byte}
 use Rattle.plan.specs.Good.{Checked, is_carry}
 use Rattle.plan.specs.Program.{carried_by, counted_on, natural, op_of, program_of}
 use Rattle.plan.proofs.Bodies.{short_body}
-use Rattle.plan.proofs.Leadings.{front_length, leading_at}
+use Rattle.plan.proofs.Leadings.{leading_at}
 use Rattle.plan.proofs.Sections.{count_no_blank}
 
 counted_near : (xs : List Record) (x : ℕ) → ((i : ℕ) → i < length xs → Near 100 (get_or xs i blank).number) → Near 100 (counted_on xs x)
@@ -47,16 +48,15 @@ module _ (rs : List Record) (C : Checked rs) where
 
   counts_near : (m i : ℕ) → i < prefix_len is_count (drop m rs) → Near 100 (get_or (take (prefix_len is_count (drop m rs)) (drop m rs)) i blank).number
   counts_near m i h =
-      let at = leading_at is_count blank (drop m rs) i h in
+      let at = leading_at is_count blank rs m i h in
       let is : get_or (take (prefix_len is_count (drop m rs)) (drop m rs)) i blank ≡ get_or rs (m + i) blank = get_or-take (prefix_len is_count (drop m rs)) (drop m rs) i blank h ∙ get_or-drop m rs i blank in
-      subst (λ (r : Record). Near 100 r.number) (sym is)
-      (count_near (m + i) (omega (arith, at.0, length-drop m rs)) (ap is_count (sym (get_or-drop m rs i blank)) ∙ at.1))
+      subst (λ (r : Record). Near 100 r.number) (sym is) (count_near (m + i) at.0 at.1)
 
   pub limited_program : {Level : Type 0} (made : ℤ → ℤ → Level) → Limited (program_of made rs)
   limited_program made = record {
     opened = λ i x h. (
         let line = (get_or (tasks_of rs) i no_task).line in
-        counted_near (counts_of rs (get_or (tasks_of rs) i no_task)) x (λ j l. counts_near line j (omega (arith, front_length is_count blank (drop line rs)))));
+        counted_near (counts_of rs (get_or (tasks_of rs) i no_task)) x (λ j l. counts_near line j (omega (arith, length-prefix_len is_count (drop line rs)))));
     carried = λ c d. carried-few rs c d (λ i h e. natural-few (get_or rs i blank).number ((C.good i h (carry_no_blank (get_or rs i blank) e)).carries e).2.1);
     short = λ i h. omega (arith, length-map (body_of rs (tasks_of rs) i) op_of, short_body rs C.roomy i);
   }

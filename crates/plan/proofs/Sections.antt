@@ -133,9 +133,7 @@ module _ (rs : List Record) (good : (i : ℕ) → i < length rs → ((get_or rs 
       (λ (count : is_count (get_or rs j blank) ≡ true).
       let r = count-place j (omega arith) count in
       let here : line_at r.0 + (r.1 + 1) ≡ j + 1 = omega (arith, r.4) in
-      let is : is_count (get_or (drop (line_at r.0) rs) (r.1 + 1) blank) ≡ true =
-      ap is_count (get_or-drop (line_at r.0) rs (r.1 + 1) blank ∙ ap (λ n. get_or rs n blank) here) ∙ q in
-      let more = leading_on is_count blank (drop (line_at r.0) rs) (r.1 + 1) (omega (arith, r.3)) (omega (arith, length-drop (line_at r.0) rs, r.4)) is in
+      let more = leading_on is_count blank rs (line_at r.0) (r.1 + 1) (j + 1) here (omega (arith, r.3)) (omega arith) q in
       (r.0, r.1 + 1, r.2, more, omega (arith, r.4)))
       (λ (other : (is_operation (get_or rs j blank) ≡ true) × (may_follow Operations (get_or rs (j + 1) blank).letter ≡ true)).
       no (sym (count_letter (λ c. may_follow Operations c ≡ false) refl (get_or rs (j + 1) blank) q) ∙ other.1)))
@@ -159,16 +157,12 @@ module _ (rs : List Record) (good : (i : ℕ) → i < length rs → ((get_or rs 
       (λ (count : is_count (get_or rs j blank) ≡ true).
       let r = count-place j (omega arith) count in
       let here : line_at r.0 + (r.1 + 1) ≡ j + 1 = omega (arith, r.4) in
-      let stop : is_count (get_or (drop (line_at r.0) rs) (r.1 + 1) blank) ≡ false =
-      ap is_count (get_or-drop (line_at r.0) rs (r.1 + 1) blank ∙ ap (λ n. get_or rs n blank) here) ∙ operation_no_count (get_or rs (j + 1) blank) o in
-      let size = leading_stops is_count blank (drop (line_at r.0) rs) (r.1 + 1) (omega (arith, r.3)) stop in
+      let size = leading_stops is_count blank rs (line_at r.0) (r.1 + 1) (j + 1) here (omega (arith, r.3)) (operation_no_count (get_or rs (j + 1) blank) o) in
       let start : start_at r.0 ≡ j + 1 = omega (arith, size, r.4) in
       (r.0, 0, r.2, omega (arith, first, ap (λ n. prefix_len is_operation (drop n rs)) start), omega (arith, start)))
       (λ (operation : (is_operation (get_or rs j blank) ≡ true) × (may_follow Operations (get_or rs (j + 1) blank).letter ≡ true)).
       let r = operation-place j (omega arith) operation.0 in
       let here : start_at r.0 + (r.1 + 1) ≡ j + 1 = omega (arith, r.4) in
-      let is : is_operation (get_or (drop (start_at r.0) rs) (r.1 + 1) blank) ≡ true =
-      ap is_operation (get_or-drop (start_at r.0) rs (r.1 + 1) blank ∙ ap (λ n. get_or rs n blank) here) ∙ o in
-      let more = leading_on is_operation blank (drop (start_at r.0) rs) (r.1 + 1) (omega (arith, r.3)) (omega (arith, length-drop (start_at r.0) rs, r.4)) is in
+      let more = leading_on is_operation blank rs (start_at r.0) (r.1 + 1) (j + 1) here (omega (arith, r.3)) (omega arith) o in
       (r.0, r.1 + 1, r.2, more, omega (arith, r.4))))
       (comes_after j (omega arith) (operation_no_blank (get_or rs (j + 1) blank) o) (operation_inner (get_or rs (j + 1) blank) o))
