@@ -15,7 +15,7 @@ use Rattle.text.specs.Text.{one_of}
 use Rattle.plan.specs.Good.{Uses}
 use Rattle.plan.specs.Program.{is_channel, no_object}
 use Rattle.plan.proofs.Leadings.{by_run, by_task, leading_at, task-line, tasks_by}
-use Rattle.plan.proofs.Sections.{count_no_task, operation_letter, operation_no_task}
+use Rattle.plan.proofs.Sections.{count_no_task, each_operation, operation_no_task}
 
 -- operation p of task k: the record at some index, after k + 1 T lines
 pub record Stands (rs : List Record) (k p : ℕ) : Type 0 where
@@ -70,7 +70,7 @@ operation-room rs r h no-object no-task o =
     ltb-true _ _ (sym (cond-true _ _ _ o) ∙ sym (cond-false _ _ _ no-task) ∙ sym (cond-false _ _ _ no-object) ∙ b)
 
 pub operation_no_object : (r : Record) → is_operation r ≡ true → is_object r ≡ false
-operation_no_object r e = operation_letter (λ c. one_of c (codes "CK") ≡ false) (refl, (refl, (refl, (refl, (refl, tt))))) r e
+operation_no_object r e = each_operation (λ x. is_object x ≡ false) r (refl, (refl, (refl, (refl, (refl, tt))))) e
 
 module _ (rs : List Record) (room : Roomy rs) where
   objects_by : (i : ℕ) → i ≤ length rs → length (objects_of (take i rs)) ≤ 32

@@ -14,32 +14,15 @@ use Rattle.tasks.proofs.Crews.{crew-rule}
 use Rattle.text.specs.Text.{byte}
 use Rattle.plan.specs.Good.{Checked, is_locking, is_receive}
 use Rattle.plan.specs.Program.{natural, op_of, program_of}
-use Rattle.plan.proofs.Sections.{one_of_lem}
-use Rattle.plan.proofs.Sounds.{op_cases, sound_program, start-above}
-
--- an operation that is no start brings about nothing
-
-send_no_start : (r : Record) → is_send r ≡ true → is_start r ≡ false
-send_no_start r e = subst (λ c. eqb c (byte "F") ≡ false) (sym (eqb-true r.letter (byte "S") e)) refl
-
-receive_no_start : (r : Record) → is_receive r ≡ true → is_start r ≡ false
-receive_no_start r e = subst (λ c. eqb c (byte "F") ≡ false) (sym (eqb-true r.letter (byte "R") e)) refl
-
-lock_no_start : (r : Record) → is_locking r ≡ true → is_start r ≡ false
-lock_no_start r e = one_of_lem (λ c. eqb c (byte "F") ≡ false) r.letter (codes "AL") (refl, (refl, tt)) e
+use Rattle.plan.proofs.Sections.{each_operation}
+use Rattle.plan.proofs.Sounds.{sound_program, start-above}
 
 module _ (f g : ℕ → List ℕ) (k : ℕ) where
-  nothing : (r : Record) → is_start r ≡ false → cond (starts k r) (f r.first) [] ≡ []
-  nothing r e = cond-false _ _ _ (and_left _ _ e)
-
+  -- an operation that is no start brings about nothing
   brought-one : (r : Record) → is_operation r ≡ true → (is_start r ≡ true → (r.first < k) × (f r.first ≡ g r.first)) → cond (starts k r) (f r.first) [] ≡ at_start [] g (op_of r)
   brought-one r o s =
-      op_cases (λ x. cond (starts k r) (f r.first) [] ≡ at_start [] g x) r o
-      (λ e. nothing r (send_no_start r e))
-      (λ e. nothing r (receive_no_start r e))
-      (λ e. nothing r (lock_no_start r e))
-      (λ e. nothing r (lock_no_start r e))
-      (λ e. cond-true _ _ _ (and_from _ _ e (lt-ltb _ _ (s e).0)) ∙ (s e).1)
+      each_operation (λ x. (is_start x ≡ true → (x.first < k) × (f x.first ≡ g x.first)) → cond (starts k x) (f x.first) [] ≡ at_start [] g (op_of x)) r
+      (λ _. refl, (λ _. refl, (λ _. refl, (λ _. refl, (λ h. cond-true _ _ _ (lt-ltb _ _ (h refl).0) ∙ (h refl).1, tt))))) o s
 
   brought-forest : (xs : List Record) → ((i : ℕ) → i < length xs → (is_operation (get_or xs i blank) ≡ true) × (is_start (get_or xs i blank) ≡ true → ((get_or xs i blank).first < k) × (f (get_or xs i blank).first ≡ g (get_or xs i blank).first)))
       → brought f k xs ≡ forest g (map op_of xs)

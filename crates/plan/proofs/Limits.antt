@@ -16,6 +16,7 @@ use Rattle.plan.specs.Good.{Checked, is_carry}
 use Rattle.plan.specs.Program.{carried_by, counted_on, natural, op_of, program_of}
 use Rattle.plan.proofs.Bodies.{short_body}
 use Rattle.plan.proofs.Leadings.{leading_at}
+use Rattle.plan.proofs.Rooms.{no}
 use Rattle.plan.proofs.Sections.{count_no_blank}
 
 counted_near : (xs : List Record) (x : ℕ) → ((i : ℕ) → i < length xs → Near 100 (get_or xs i blank).number) → Near 100 (counted_on xs x)
@@ -40,7 +41,7 @@ natural-few (pos n) h = omega (arith, ints)
 natural-few (negsuc n) h = omega arith
 
 carry_no_blank : (r : Record) → is_carry r ≡ true → r.letter ≡ 0 → ⊥
-carry_no_blank r e z = let w : r.letter ≡ 87 = eqb-true r.letter (byte "W") e in omega arith
+carry_no_blank r e z = no (sym (ap (λ c. eqb c (byte "W")) z) ∙ e)
 
 module _ (rs : List Record) (C : Checked rs) where
   count_near : (i : ℕ) → i < length rs → is_count (get_or rs i blank) ≡ true → Near 100 (get_or rs i blank).number

@@ -3,7 +3,7 @@ use Rattle.std.proofs.Common.{◌||◌, ◌≡◌, ℕ, zero, suc, ◌+◌, ◌-
 use Rattle.std.specs.List.{prefix_len, AllByRecursion as All}
 use Rattle.std.proofs.lemmas.List.{get_or-drop, get_or-take, length-drop, length-take-le}
 use Rattle.std.proofs.lemmas.List.Sums.{prefix_len-drop_no, prefix_len-drop_yes}
-use Rattle.std.proofs.lemmas.Bool.{eqb-true, false≢true}
+use Rattle.std.proofs.lemmas.Bool.{eqb-true, false≢true, or_cases, or_parts}
 use Rattle.records.specs.declared.record.Record.{Record}
 use Rattle.records.specs.declared.rows.TaskRow.{TaskRow}
 use Rattle.reader.specs.Lines.{may_follow, section_of}
@@ -13,42 +13,38 @@ use Rattle.tasks.specs.Threads.{first_operation}
 use Rattle.text.specs.Text.{byte, one_of}
 use Rattle.plan.specs.Good.{Good}
 use Rattle.plan.proofs.Leadings.{by_task, by_whole, leading_on, leading_stops, row_here, tasks_by}
+use Rattle.plan.proofs.Rooms.{no}
 
-pub no : {A : Type 0} → false ≡ true → A
-no e = absurd (false≢true e)
+-- a record with another letter
+abbrev pub lettered : Record → ℕ → Record
+lettered r c = record { letter = c; first = r.first; second = r.second; number = r.number; extra = r.extra; name = r.name }
 
--- a letter is one of a few
-pub one_of_lem : (P : ℕ → Type 0) (c : ℕ) (cs : List ℕ) → All P cs → one_of c cs ≡ true → P c
-one_of_lem P c [] a e = no e
-one_of_lem P c (x ∷ xs) a e =
-    (elim (eqb c x) as (λ b. eqb c x ≡ b → (b || one_of c xs) ≡ true → P c) [
-      | true ↦ λ h f. subst P (sym (eqb-true c x h)) a.0
-      | false ↦ λ h f. one_of_lem P c xs a.1 f
-    ]) refl e
+-- what holds of a record with this letter holds of a record that has it
+pub with_letter : (P : Record → Type 0) (r : Record) (c : ℕ) → P (lettered r c) → eqb r.letter c ≡ true → P r
+with_letter P r c h e = subst (λ x. P (lettered r x)) (sym (eqb-true r.letter c e)) h
 
-pub operation_letter : (P : ℕ → Type 0) → All P (codes "SRALF") → (r : Record) → is_operation r ≡ true → P r.letter
-operation_letter P a r e = one_of_lem P r.letter (codes "SRALF") a e
+-- and with each of these letters, of a record that has one of them
+with_one : (P : Record → Type 0) (r : Record) (cs : List ℕ) → All (λ c. P (lettered r c)) cs → one_of r.letter cs ≡ true → P r
+with_one P r [] h e = no e
+with_one P r (c ∷ cs) h e = ⊎_elim (with_letter P r c h.0) (with_one P r cs h.1) (or_cases _ _ e)
 
-pub count_letter : (P : ℕ → Type 0) → P (byte "Q") → (r : Record) → is_count r ≡ true → P r.letter
-count_letter P a r e = subst P (sym (eqb-true r.letter (byte "Q") e)) a
+pub each_operation : (P : Record → Type 0) (r : Record) → All (λ c. P (lettered r c)) (codes "SRALF") → is_operation r ≡ true → P r
+each_operation P r h e = with_one P r (codes "SRALF") h e
 
 pub operation_no_task : (r : Record) → is_operation r ≡ true → is_task r ≡ false
-operation_no_task r e = operation_letter (λ c. eqb c (byte "T") ≡ false) (refl, (refl, (refl, (refl, (refl, tt))))) r e
+operation_no_task r e = each_operation (λ x. is_task x ≡ false) r (refl, (refl, (refl, (refl, (refl, tt))))) e
 
 pub count_no_task : (r : Record) → is_count r ≡ true → is_task r ≡ false
-count_no_task r e = count_letter (λ c. eqb c (byte "T") ≡ false) refl r e
+count_no_task r e = with_letter (λ x. is_task x ≡ false) r (byte "Q") refl e
 
 operation_no_count : (r : Record) → is_operation r ≡ true → is_count r ≡ false
-operation_no_count r e = operation_letter (λ c. eqb c (byte "Q") ≡ false) (refl, (refl, (refl, (refl, (refl, tt))))) r e
-
-zero_false : (c : ℕ) → eqb c 0 ≡ false → c ≡ 0 → ⊥
-zero_false c e z = let f : eqb 0 0 ≡ false = subst (λ n. eqb n 0 ≡ false) z e in false≢true (sym f)
+operation_no_count r e = each_operation (λ x. is_count x ≡ false) r (refl, (refl, (refl, (refl, (refl, tt))))) e
 
 pub operation_no_blank : (r : Record) → is_operation r ≡ true → r.letter ≡ 0 → ⊥
-operation_no_blank r e = operation_letter (λ c. c ≡ 0 → ⊥) (zero_false _ refl, (zero_false _ refl, (zero_false _ refl, (zero_false _ refl, (zero_false _ refl, tt))))) r e
+operation_no_blank r e z = no (sym (ap (λ c. one_of c (codes "SRALF")) z) ∙ e)
 
 pub count_no_blank : (r : Record) → is_count r ≡ true → r.letter ≡ 0 → ⊥
-count_no_blank r e = count_letter (λ c. c ≡ 0 → ⊥) (zero_false _ refl) r e
+count_no_blank r e z = no (sym (ap (λ c. eqb c (byte "Q")) z) ∙ e)
 
 -- A letter that may not stand at the start, after the header, after objects or after carries comes in a task.
 pub record Inner (c : ℕ) : Type 0 where
@@ -57,24 +53,16 @@ pub record Inner (c : ℕ) : Type 0 where
   pub objects : may_follow Objects c ≡ false
   pub carries : may_follow Carries c ≡ false
 
+inner : (c : ℕ) → (may_follow Nothing c || (may_follow Header c || may_follow Carries c)) ≡ false → Inner c
+inner c e =
+    let later = or_parts _ _ (or_parts (may_follow Nothing c) _ e).1 in
+    record { nothing = (or_parts (may_follow Nothing c) _ e).0; header = later.0; objects = later.0; carries = later.1 }
+
 pub count_inner : (r : Record) → is_count r ≡ true → Inner r.letter
-count_inner r e = count_letter Inner (record { nothing = refl; header = refl; objects = refl; carries = refl }) r e
+count_inner r e = with_letter (λ x. Inner x.letter) r (byte "Q") (inner _ refl) e
 
 pub operation_inner : (r : Record) → is_operation r ≡ true → Inner r.letter
-operation_inner r e =
-    operation_letter Inner (
-      record { nothing = refl; header = refl; objects = refl; carries = refl },
-      (
-        record { nothing = refl; header = refl; objects = refl; carries = refl },
-        (
-          record { nothing = refl; header = refl; objects = refl; carries = refl },
-          (
-            record { nothing = refl; header = refl; objects = refl; carries = refl },
-            (record { nothing = refl; header = refl; objects = refl; carries = refl }, tt),
-          ),
-        ),
-      ),
-    ) r e
+operation_inner r e = each_operation (λ x. Inner x.letter) r (inner _ refl, (inner _ refl, (inner _ refl, (inner _ refl, (inner _ refl, tt))))) e
 
 after_inner : (p o w t q s : Bool) (c : ℕ) → Inner c
     → may_follow (cond p Header (cond o Objects (cond w Carries (cond t Task (cond q Counts (cond s Operations Nothing)))))) c ≡ true
@@ -136,7 +124,7 @@ module _ (rs : List Record) (good : (i : ℕ) → i < length rs → ((get_or rs 
       let more = leading_on is_count blank rs (line_at r.0) (r.1 + 1) (j + 1) here (omega (arith, r.3)) (omega arith) q in
       (r.0, r.1 + 1, r.2, more, omega (arith, r.4)))
       (λ (other : (is_operation (get_or rs j blank) ≡ true) × (may_follow Operations (get_or rs (j + 1) blank).letter ≡ true)).
-      no (sym (count_letter (λ c. may_follow Operations c ≡ false) refl (get_or rs (j + 1) blank) q) ∙ other.1)))
+      no (sym (with_letter (λ x. may_follow Operations x.letter ≡ false) (get_or rs (j + 1) blank) (byte "Q") refl q) ∙ other.1)))
       (comes_after j (omega arith) (count_no_blank (get_or rs (j + 1) blank) q) (count_inner (get_or rs (j + 1) blank) q))
 
   -- an operation stands among those of a task

@@ -1,5 +1,7 @@
 -- The program that checked records mean is sound, and within the limits of a text.
 use Rattle.std.proofs.Common.{◌||◌, ◌≡◌, ℕ, zero, suc, ◌-◌, ◌<◌, Bool, true, false, cond, T, eqb, List, [], ◌∷◌, map, length, get_or, take, drop, ℤ, codes, sym, refl, ap, ◌∙◌, subst, arith}
+use Rattle.std.proofs.lemmas.List.{get_or_default}
+use Rattle.std.proofs.lemmas.List.Folds.{Any-from_list_any}
 use Rattle.std.proofs.lemmas.Bool.{and_parts, eqb-true}
 use Rattle.model.specs.Program.{Op, Within, acquire, operation, receive, release, send, start, step_at}
 use Rattle.model.specs.Threads.{Sound}
@@ -11,7 +13,7 @@ use Rattle.text.specs.Text.{byte, one_of, some}
 use Rattle.plan.specs.Good.{Checked, Good, Uses, is_locking, is_receive}
 use Rattle.plan.specs.Program.{counted_on, is_channel, natural, no_object, op_of, program_of}
 use Rattle.plan.proofs.Bodies.{body_length, few_objects, stands, uses_whole}
-use Rattle.plan.proofs.Sections.{no, operation_letter, operation_no_blank, operation-place}
+use Rattle.plan.proofs.Sections.{each_operation, operation_no_blank, operation-place, with_letter}
 
 -- the steps of a list of operation records
 
@@ -25,50 +27,11 @@ step-here [] p h = absurd (omega arith)
 step-here (x ∷ xs) zero h = refl
 step-here (x ∷ xs) (suc p) h = step-here xs p (omega arith)
 
--- what holds of the operation of an operation record, by its letter
-pub op_cases : (P : Op ℕ → Type 0) (r : Record) → is_operation r ≡ true
-    → (is_send r ≡ true → P (send r.first (natural r.number)))
-    → (is_receive r ≡ true → P (receive r.first))
-    → (is_locking r ≡ true → P (acquire r.first))
-    → (is_locking r ≡ true → P (release r.first))
-    → (is_start r ≡ true → P (start r.first))
-    → P (op_of r)
-op_cases P r e =
-    operation_letter
-    (λ c. (eqb c (byte "S") ≡ true → P (send r.first (natural r.number)))
-    → (eqb c (byte "R") ≡ true → P (receive r.first))
-    → (one_of c (codes "AL") ≡ true → P (acquire r.first))
-    → (one_of c (codes "AL") ≡ true → P (release r.first))
-    → (eqb c (byte "F") ≡ true → P (start r.first))
-    → P (cond (eqb c (byte "S")) (send r.first (natural r.number))
-    (cond (eqb c (byte "R")) (receive r.first)
-    (cond (eqb c (byte "A")) (acquire r.first)
-    (cond (eqb c (byte "L")) (release r.first)
-    (start r.first))))))
-    (λ s v a l f. s refl, (λ s v a l f. v refl, (λ s v a l f. a refl, (λ s v a l f. l refl, (λ s v a l f. f refl, tt))))) r e
-
-start_letter : (P : ℕ → Type 0) → P (byte "F") → (r : Record) → is_start r ≡ true → P r.letter
-start_letter P a r e = subst P (sym (eqb-true r.letter (byte "F") e)) a
-
 start-operation : (r : Record) → is_start r ≡ true → is_operation r ≡ true
-start-operation r e = start_letter (λ c. one_of c (codes "SRALF") ≡ true) refl r e
+start-operation r e = with_letter (λ x. is_operation x ≡ true) r (byte "F") refl e
 
 start-op : (r : Record) → is_start r ≡ true → op_of r ≡ start r.first
-start-op r e =
-    start_letter
-    (λ c. cond (eqb c (byte "S")) (send r.first (natural r.number))
-    (cond (eqb c (byte "R")) (receive r.first)
-    (cond (eqb c (byte "A")) (acquire r.first)
-    (cond (eqb c (byte "L")) (release r.first)
-    (start r.first)))) ≡ start r.first) refl r e
-
-some_at : {A : Type 0} (p : A → Bool) (d : A) (xs : List A) → some p xs ≡ true → (i : ℕ) × (i < length xs) × (p (get_or xs i d) ≡ true)
-some_at p d [] e = no e
-some_at p d (x ∷ xs) e =
-    (elim (p x) as (λ b. p x ≡ b → (b || some p xs) ≡ true → (i : ℕ) × (i < suc (length xs)) × (p (get_or (x ∷ xs) i d) ≡ true)) [
-      | true ↦ λ h f. (0, omega arith, h)
-      | false ↦ λ h f. let r = some_at p d xs f in (suc r.0, omega (arith, r.1), r.2)
-    ]) refl e
+start-op r e = with_letter (λ x. op_of x ≡ start x.first) r (byte "F") refl e
 
 module _ (rs : List Record) (C : Checked rs) where
   good-operation : (i : ℕ) → i < length rs → is_operation (get_or rs i blank) ≡ true → Good (take i rs) (get_or rs i blank)
@@ -89,24 +52,21 @@ module _ (rs : List Record) (C : Checked rs) where
         let s = step_from (body_of rs (tasks_of rs) i) p (start k) e in
         let r = get_or (body_of rs (tasks_of rs) i) p blank in
         let a = start-above i p h s.0 in
-        op_cases (λ o. o ≡ start k → k < i) r a.0
-        (λ _ f. cc)
-        (λ _ f. cc)
-        (λ _ f. cc)
-        (λ _ f. cc)
-        (λ is f. let same : r.first ≡ k = cc in omega (arith, a.1 is, same))
-        s.1
+        each_operation (λ x. op_of x ≡ start k → (is_start x ≡ true → x.first < i) → k < i) r
+        (λ f _. cc, (λ f _. cc, (λ f _. cc, (λ f _. cc, (λ f below. let same : r.first ≡ k = cc in omega (arith, below refl, same), tt)))))
+        a.0 s.1 a.1
 
     named : (k : ℕ) → suc k < length (tasks_of rs) → (i : ℕ) × (p : ℕ) × (i < length (tasks_of rs)) × (step_at (map op_of (body_of rs (tasks_of rs) i)) p ≡ operation (start k))
     named k h =
-        let f = some_at (is_start_of k) blank rs (C.started k (omega arith)) in
-        let r : Record = get_or rs f.0 blank in
-        let t = and_parts (is_start r) (eqb r.first k) f.2 in
-        let o = operation-place rs C.good f.0 f.1 (start-operation r t.0) in
+        let f = Any-from_list_any (is_start_of k) rs (C.started k (omega arith)) in
+        let r : Record = f.1 in
+        let here : get_or rs f.0 blank ≡ r = get_or_default rs f.0 blank r f.2 ∙ f.3 in
+        let t = and_parts (is_start r) (eqb r.first k) f.4 in
+        let o = operation-place rs C.good f.0 f.2 (ap is_operation here ∙ start-operation r t.0) in
         let body = body_of rs (tasks_of rs) o.0 in
         let under : o.1 < length body = omega (arith, o.3, body_length rs o.0) in
         let s = stands rs o.0 o.1 o.2 under in
-        let is : get_or body o.1 blank ≡ r = s.is ∙ ap (λ n. get_or rs n blank) (s.place ∙ o.4) in (
+        let is : get_or body o.1 blank ≡ r = s.is ∙ ap (λ n. get_or rs n blank) (s.place ∙ o.4) ∙ here in (
           o.0,
           o.1,
           o.2,
@@ -122,12 +82,14 @@ module _ (rs : List Record) (C : Checked rs) where
         let channel : (x : ℕ) → Uses (take s.at rs) true x → (x < length (objects_of rs)) × T (is_channel (get_or (objects_of rs) x no_object).kind) =
         λ x u. let w = uses_whole rs s.at true x u in (w.0, subst T (sym w.1) tt) in
         let here : Within (program_of made rs) (op_of r) =
-        op_cases (Within (program_of made rs)) r s.operation
-        (λ f. channel r.first (g.sends f).0)
-        (λ f. channel r.first (g.receives f))
-        (λ f. (uses_whole rs s.at false r.first (g.locks f)).0)
-        (λ f. (uses_whole rs s.at false r.first (g.locks f)).0)
-        (λ f. tt) in
+        each_operation (λ x. Good (take s.at rs) x → Within (program_of made rs) (op_of x)) r (
+          λ h. channel r.first (h.sends refl).0,
+          (
+            λ h. channel r.first (h.receives refl),
+            (λ h. (uses_whole rs s.at false r.first (h.locks refl)).0, (λ h. (uses_whole rs s.at false r.first (h.locks refl)).0, (λ h. tt, tt))),
+          ),
+        )
+        s.operation g in
         subst (Within (program_of made rs)) (ap op_of (sym s.is) ∙ st.1) here
 
     pub sound_program : Sound (program_of made rs)
