@@ -46,6 +46,16 @@ module _ (rs : List Record) (C : Checked rs) where
       (s.operation, λ f. omega (arith, (good-operation s.at s.inside s.operation).starts f, s.tasks)) in
       subst (λ (r : Record). (is_operation r ≡ true) × (is_start r ≡ true → r.first < k)) (sym s.is) here
 
+  -- an operation stands among those of a task
+  operation-at : (i : ℕ) (x : Record) (v : Op ℕ) → i < length rs → get_or rs i blank ≡ x → is_operation x ≡ true → op_of x ≡ v
+      → (k : ℕ) × (p : ℕ) × (k < length (tasks_of rs)) × (step_at (map op_of (body_of rs (tasks_of rs) k)) p ≡ operation v)
+  operation-at i x v h is e means =
+      let o = operation-place rs C.good i h (ap is_operation is ∙ e) in
+      let body = body_of rs (tasks_of rs) o.0 in
+      let under : o.1 < length body = omega (arith, o.3, body_length rs o.0) in
+      let s = stands rs o.0 o.1 o.2 under in
+      (o.0, o.1, o.2, step-here body o.1 under ∙ ap operation (ap op_of (s.is ∙ ap (λ n. get_or rs n blank) (s.place ∙ o.4) ∙ is) ∙ means))
+
   module _ {Level : Type 0} (made : ℤ → ℤ → Level) where
     falls : (i p k : ℕ) → i < length (tasks_of rs) → step_at (map op_of (body_of rs (tasks_of rs) i)) p ≡ operation (start k) → k < i
     falls i p k h e =
@@ -59,37 +69,21 @@ module _ (rs : List Record) (C : Checked rs) where
     named : (k : ℕ) → suc k < length (tasks_of rs) → (i : ℕ) × (p : ℕ) × (i < length (tasks_of rs)) × (step_at (map op_of (body_of rs (tasks_of rs) i)) p ≡ operation (start k))
     named k h =
         let f = Any-from_list_any (is_start_of k) rs (C.started k (omega arith)) in
-        let r : Record = f.1 in
-        let here : get_or rs f.0 blank ≡ r = get_or_default rs f.0 blank r f.2 ∙ f.3 in
-        let t = and_parts (is_start r) (eqb r.first k) f.4 in
-        let o = operation-place rs C.good f.0 f.2 (ap is_operation here ∙ start-operation r t.0) in
-        let body = body_of rs (tasks_of rs) o.0 in
-        let under : o.1 < length body = omega (arith, o.3, body_length rs o.0) in
-        let s = stands rs o.0 o.1 o.2 under in
-        let is : get_or body o.1 blank ≡ r = s.is ∙ ap (λ n. get_or rs n blank) (s.place ∙ o.4) ∙ here in (
-          o.0,
-          o.1,
-          o.2,
-          step-here body o.1 under ∙ ap operation (ap op_of is ∙ start-op r t.0 ∙ ap start (eqb-true r.first k t.1)),
-        )
+        let t = and_parts (is_start f.1) (eqb f.1.first k) f.4 in
+        operation-at f.0 f.1 (start k) f.2 (get_or_default rs f.0 blank f.1 f.2 ∙ f.3) (start-operation f.1 t.0) (start-op f.1 t.0 ∙ ap start (eqb-true f.1.first k t.1))
 
     within : (i p : ℕ) (o : Op ℕ) → i < length (tasks_of rs) → step_at (map op_of (body_of rs (tasks_of rs) i)) p ≡ operation o → Within (program_of made rs) o
     within i p o h e =
         let st = step_from (body_of rs (tasks_of rs) i) p o e in
         let s = stands rs i p h st.0 in
         let r = get_or rs s.at blank in
-        let g = good-operation s.at s.inside s.operation in
-        let channel : (x : ℕ) → Uses (take s.at rs) true x → (x < length (objects_of rs)) × T (is_channel (get_or (objects_of rs) x no_object).kind) =
-        λ x u. let w = uses_whole rs s.at true x u in (w.0, subst T (sym w.1) tt) in
+        let channel : Uses (take s.at rs) true r.first → (r.first < length (objects_of rs)) × T (is_channel (get_or (objects_of rs) r.first no_object).kind) =
+        λ u. let w = uses_whole rs s.at true r.first u in (w.0, subst T (sym w.1) tt) in
+        let lock : Uses (take s.at rs) false r.first → r.first < length (objects_of rs) = λ u. (uses_whole rs s.at false r.first u).0 in
         let here : Within (program_of made rs) (op_of r) =
-        each_operation (λ x. Good (take s.at rs) x → Within (program_of made rs) (op_of x)) r (
-          λ h. channel r.first (h.sends refl).0,
-          (
-            λ h. channel r.first (h.receives refl),
-            (λ h. (uses_whole rs s.at false r.first (h.locks refl)).0, (λ h. (uses_whole rs s.at false r.first (h.locks refl)).0, (λ h. tt, tt))),
-          ),
-        )
-        s.operation g in
+        each_operation (λ x. Good (take s.at rs) x → Within (program_of made rs) (op_of x)) r
+        (λ g. channel (g.sends refl).0, (λ g. channel (g.receives refl), (λ g. lock (g.locks refl), (λ g. lock (g.locks refl), (λ g. tt, tt)))))
+        s.operation (good-operation s.at s.inside s.operation) in
         subst (Within (program_of made rs)) (ap op_of (sym s.is) ∙ st.1) here
 
     pub sound_program : Sound (program_of made rs)
