@@ -1,10 +1,10 @@
 -- The operations of a task: where each stands, what it names, and how many there are.
-use Rattle.std.proofs.Common.{◌≡◌, ℕ, zero, suc, ◌+◌, ◌<◌, ◌≤◌, Bool, true, false, List, [], ◌∷◌, ◌++◌, length, get_or, take, drop, codes, sym, refl, ap, ◌∙◌, ⊎_elim, arith}
+use Rattle.std.proofs.Common.{◌≡◌, ℕ, zero, suc, ◌+◌, ◌<◌, ◌≤◌, Bool, true, false, List, [], ◌∷◌, ◌++◌, length, get_or, take, drop, codes, sym, refl, ap, ◌∙◌, subst, arith}
 use Rattle.std.specs.List.{flat_map, prefix_len}
 use Rattle.std.proofs.lemmas.List.{append_assoc, get_or_append_left, get_or-drop, get_or-take, length-append, length-drop, length_push, take_all, take-append-drop, take_more}
 use Rattle.std.proofs.lemmas.List.Concat.{flat_map-append}
 use Rattle.std.proofs.lemmas.List.Folds.{length-prefix_len}
-use Rattle.std.proofs.lemmas.Bool.{and_parts, cases_Bool, cond-false, cond-true, ltb-true}
+use Rattle.std.proofs.lemmas.Bool.{and_parts, cond_both, cond-false, cond-true, ltb-true}
 use Rattle.records.specs.declared.record.Record.{Record}
 use Rattle.records.specs.declared.rows.ObjectRow.{ObjectRow}
 use Rattle.tasks.specs.Records.{blank, has_room, is_count, is_object, is_operation, is_task, no_task, object_row, objects_in, objects_of, open_operations, tasks_of}
@@ -80,15 +80,10 @@ module _ (rs : List Record) (room : Roomy rs) where
       let r = get_or rs i blank in
       let before : List ObjectRow = objects_of (take i rs) in
       let more : objects_of (take (suc i) rs) ≡ before ++ objects_in r = ap (λ n. objects_of (take n rs)) next ∙ ap objects_of (take_more rs i blank (omega arith)) ∙ objects_push (take i rs) r in
-      ⊎_elim
-      (λ (yes : is_object r ≡ true).
-      let one : objects_in r ≡ object_row r ∷ [] = cond-true _ _ _ yes in
-      omega (arith, ap length (more ∙ ap (λ os. before ++ os) one), length_push before (object_row r), object-room (take i rs) r (room i (omega arith)) yes))
-      (λ (other : is_object r ≡ false).
-      let none : objects_in r ≡ [] = cond-false _ _ _ other in
-      let nil : List ObjectRow = [] in
-      omega (arith, ap length (more ∙ ap (λ os. before ++ os) none), length-append before nil, objects_by i (omega arith)))
-      (cases_Bool (is_object r))
+      let none : List ObjectRow = [] in
+      subst (λ os. length os ≤ 32) (sym more) (cond_both (is_object r) (object_row r ∷ []) none (λ os. length (before ++ os) ≤ 32)
+      (λ yes. omega (arith, length_push before (object_row r), object-room (take i rs) r (room i (omega arith)) yes))
+      (λ _. omega (arith, length-append before none, objects_by i (omega arith))))
 
   pub few_objects : length (objects_of rs) ≤ 32
   few_objects = omega (arith, objects_by (length rs) (omega arith), ap (λ xs. length (objects_of xs)) (take_all (length rs) rs (omega arith)))

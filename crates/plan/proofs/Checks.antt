@@ -10,7 +10,7 @@ use lib.Signed.{le_z}
 use Rattle.std.specs.List.{prefix_len}
 use Rattle.std.proofs.lemmas.List.{get_or_append_left, get_or-append_right, get_or-replicate, length-append, length-replicate, length-take-le, take-append-le}
 use Rattle.std.proofs.lemmas.List.Folds.{list_any-append}
-use Rattle.std.proofs.lemmas.Bool.{cases_eq, eqb-false, eqb-true, or_left}
+use Rattle.std.proofs.lemmas.Bool.{cases_eq, cond_both, eqb-false, eqb-true, or_left}
 use Rattle.records.specs.declared.fault.ReadFault.{ReadFault}
 use Rattle.records.specs.declared.record.Record.{Record}
 use Rattle.records.specs.declared.rows.TaskRow.{TaskRow}
@@ -35,14 +35,13 @@ held false x y f e = refl
 started-at : (rs : List Record) (m : ℕ) (ts : List TaskRow) (u : Unit {0}) → started_from rs m ts ≡ Ok u → (k : ℕ) → m ≤ k → k < m + length ts → some (is_start_of k) rs ≡ true
 started-at rs m [] u e k h l = absurd (omega arith)
 started-at rs m (t ∷ ts) u e k h l =
-    (elim (some (is_start_of m) rs) as (λ b. some (is_start_of m) rs ≡ b → cond b (started_from rs (m + 1) ts) (Err (ReadFault.NeverStarted t.line)) ≡ Ok u → some (is_start_of k) rs ≡ true) [
-      | true ↦ λ here rest.
-          ⊎_elim
-          (λ (same : m ≡ k). subst (λ n. some (is_start_of n) rs ≡ true) same here)
-          (λ (other : m ≡ k → ⊥). started-at rs (m + 1) ts u rest k (omega arith) (omega arith))
-          (cases_eq m k)
-      | false ↦ λ here rest. cc
-    ]) refl e
+    cond_both (some (is_start_of m) rs) (started_from rs (m + 1) ts) (Err (ReadFault.NeverStarted t.line)) (λ v. v ≡ Ok u → some (is_start_of k) rs ≡ true)
+    (λ here rest.
+    ⊎_elim
+    (λ (same : m ≡ k). subst (λ n. some (is_start_of n) rs ≡ true) same here)
+    (λ (other : m ≡ k → ⊥). started-at rs (m + 1) ts u rest k (omega arith) (omega arith))
+    (cases_eq m k))
+    (λ _ fault. cc) e
 
 -- the records of a text, and any number of blank ones
 checked_blanks : (rs : List Record) (n : ℕ) → ((i : ℕ) → i < length rs → Good (take i rs) (get_or rs i blank)) → Roomy rs → length rs + n ≤ 800 → finished rs (tasks_of rs) ≡ Ok tt

@@ -1,6 +1,7 @@
 -- The threads, moves and sends that are counted from the records are those of the program that they mean.
 use Rattle.std.proofs.Common.{◌≡◌, ℕ, zero, suc, ◌+◌, ◌<◌, Bool, true, false, cond, eqb, List, [], ◌∷◌, ◌++◌, map, length, get_or, ℤ, codes, sum_by, count_by, sym, refl, ap, ◌∙◌, subst, ap₂, arith}
 use Rattle.std.proofs.lemmas.List.{length-map}
+use Rattle.std.proofs.lemmas.List.Recursion.{is_sum_by}
 use Rattle.std.proofs.lemmas.List.Sums.{sum_by-cons}
 use Rattle.std.proofs.lemmas.Bool.{and_from, and_left, cond-false, cond-true, eqb-true, lt-ltb}
 use Rattle.model.specs.Program.{Program, acquire, after, send_weight, moves, receive, release, send, sends, start, tally}
@@ -31,8 +32,7 @@ module _ (f g : ℕ → List ℕ) (k : ℕ) where
 
 -- sums over a list
 sum_by_total : (f w : ℕ → ℕ) → ((k : ℕ) → f k ≡ w k) → (xs : List ℕ) → sum_by f xs ≡ total w xs
-sum_by_total f w e [] = refl
-sum_by_total f w e (x ∷ xs) = omega (arith, sum_by-cons f x xs, e x, sum_by_total f w e xs)
+sum_by_total f w e xs = sym (is_sum_by (total w) f refl (λ x is. ap (λ n. n + total w is) (sym (e x))) xs)
 
 send-op : (r : Record) → send_weight (op_of r) ≡ cond (is_send r) 1 0
 send-op r = go (is_send r) (is_receive r) (eqb r.letter (byte "A")) (eqb r.letter (byte "L"))

@@ -5,7 +5,7 @@ use Rattle.std.specs.List.{prefix_len}
 use Rattle.std.proofs.lemmas.List.{get_or-drop, get_or-take, length-drop, length-map}
 use Rattle.std.proofs.lemmas.List.Folds.{length-prefix_len}
 use Rattle.std.proofs.lemmas.Int.{ints}
-use Rattle.std.proofs.lemmas.Bool.{and_parts, eqb-true}
+use Rattle.std.proofs.lemmas.Bool.{and_parts, cond_both}
 use Rattle.model.specs.Accounts.{Near}
 use Rattle.model.specs.Threads.{Limited}
 use Rattle.records.specs.declared.record.Record.{Record}
@@ -21,20 +21,14 @@ use Rattle.plan.proofs.Sections.{count_no_blank}
 
 counted_near : (xs : List Record) (x : ℕ) → ((i : ℕ) → i < length xs → Near 100 (get_or xs i blank).number) → Near 100 (counted_on xs x)
 counted_near [] x h = (le_z_yes tt, le_z_yes tt)
-counted_near (r ∷ xs) x h =
-    elim (eqb r.first x) as (λ b. Near 100 (cond b r.number (counted_on xs x))) [
-      | true ↦ h 0 (omega arith)
-      | false ↦ counted_near xs x (λ i l. h (suc i) (omega arith))
-    ]
+counted_near (r ∷ xs) x h = cond_both (eqb r.first x) r.number (counted_on xs x) (Near 100) (λ _. h 0 (omega arith)) (λ _. counted_near xs x (λ i l. h (suc i) (omega arith)))
 
 carried-few : (xs : List Record) (c d : ℕ) → ((i : ℕ) → i < length xs → is_carry (get_or xs i blank) ≡ true → natural (get_or xs i blank).number ≤ 100) → carried_by xs c d ≤ 100
 carried-few [] c d h = omega arith
 carried-few (r ∷ xs) c d h =
-    let pair = is_carry r && (eqb r.first c && eqb r.second d) in
-    (elim pair as (λ b. pair ≡ b → cond b (natural r.number) (carried_by xs c d) ≤ 100) [
-      | true ↦ λ e. h 0 (omega arith) (and_parts (is_carry r) (eqb r.first c && eqb r.second d) e).0
-      | false ↦ λ e. carried-few xs c d (λ i l. h (suc i) (omega arith))
-    ]) refl
+    cond_both (is_carry r && (eqb r.first c && eqb r.second d)) (natural r.number) (carried_by xs c d) (λ n. n ≤ 100)
+    (λ e. h 0 (omega arith) (and_parts (is_carry r) _ e).0)
+    (λ _. carried-few xs c d (λ i l. h (suc i) (omega arith)))
 
 natural-few : (z : ℤ) → z ≤ℤ pos 100 → natural z ≤ 100
 natural-few (pos n) h = omega (arith, ints)

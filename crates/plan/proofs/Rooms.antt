@@ -47,17 +47,14 @@ module _ (o : Written) (text : List ℕ) (P : List Record → Record → Type 0)
   from-here : (ls : List Line) (rs all : List Record) → read_rest o text rs ls ≡ Ok all → (i : ℕ) → length rs ≤ i → i < length all → P (take i all) (get_or all i blank)
   from-here [] rs all e i h k = let same : all ≡ rs = cc in absurd (omega (arith, ap length same))
   from-here (l ∷ ls) rs all e i h k =
-      (elim (read_next o text rs l) as (λ x. read_next o text rs l ≡ x → and_then x (λ r. read_rest o text (rs ++ r ∷ []) ls) ≡ Ok all → P (take i all) (get_or all i blank)) [
-        | Ok r ↦ λ here rest.
-            ⊎_elim
-            (λ (later : length rs < i). from-here ls (rs ++ r ∷ []) all rest i (omega (arith, length_push rs r)) k)
-            (λ (first : i ≤ length rs).
-            let same : length rs ≡ i = omega arith in
-            let t = extends o text ls (rs ++ r ∷ []) all rest in
-            subst (λ n. P (take n all) (get_or all n blank)) same (stands_here P all rs r t.0 t.1 (each rs l r here)))
-            (cases_lt (length rs) i)
-        | Err f ↦ λ here rest. cc
-      ]) refl e
+      let a = and_ok (read_next o text rs l) _ all e in
+      ⊎_elim
+      (λ (later : length rs < i). from-here ls (rs ++ a.0 ∷ []) all a.2 i (omega (arith, length_push rs a.0)) k)
+      (λ (first : i ≤ length rs).
+      let same : length rs ≡ i = omega arith in
+      let t = extends o text ls (rs ++ a.0 ∷ []) all a.2 in
+      subst (λ n. P (take n all) (get_or all n blank)) same (stands_here P all rs a.0 t.0 t.1 (each rs l a.0 a.1)))
+      (cases_lt (length rs) i)
 
   pub all_read : (ls : List Line) (all : List Record) → read_rest o text [] ls ≡ Ok all → (i : ℕ) → i < length all → P (take i all) (get_or all i blank)
   all_read ls all e i h = from-here ls [] all e i (omega arith) h
