@@ -1,7 +1,7 @@
 -- The operations of a task: where each stands, what it names, and how many there are.
-use Rattle.std.proofs.Common.{◌≡◌, ℕ, zero, suc, ◌+◌, ◌<◌, ◌≤◌, Bool, true, false, List, [], ◌∷◌, ◌++◌, length, get_or, take, drop, codes, sym, refl, ap, ◌∙◌, subst, arith}
-use Rattle.std.specs.List.{flat_map, prefix_len}
-use Rattle.std.proofs.lemmas.List.{append_assoc, get_or_append_left, get_or-drop, get_or-take, length-append, length-drop, length_push, take_all, take-append-drop, take_more}
+use Rattle.std.proofs.Common.{◌≡◌, ℕ, zero, suc, ◌+◌, ◌<◌, ◌≤◌, Bool, true, false, List, [], ◌∷◌, ◌++◌, length, get_or, take, drop, sym, refl, ap, ◌∙◌, subst, arith}
+use Rattle.std.specs.List.{prefix_len}
+use Rattle.std.proofs.lemmas.List.{get_or_append_left, get_or-drop, get_or-take, length-append, length_push, take_all, take-append-drop, take_more}
 use Rattle.std.proofs.lemmas.List.Concat.{flat_map-append}
 use Rattle.std.proofs.lemmas.List.Folds.{length-prefix_len}
 use Rattle.std.proofs.lemmas.Bool.{and_parts, cond_both, cond-false, cond-true, ltb-true}
@@ -11,7 +11,6 @@ use Rattle.tasks.specs.Records.{blank, has_room, is_count, is_object, is_operati
 use Rattle.tasks.specs.Roomy.{Roomy}
 use Rattle.tasks.specs.Threads.{body_of, first_operation}
 use Rattle.tasks.proofs.Pushed.{objects_push, open_push}
-use Rattle.text.specs.Text.{one_of}
 use Rattle.plan.specs.Good.{Uses}
 use Rattle.plan.specs.Program.{is_channel, no_object}
 use Rattle.plan.proofs.Leadings.{by_run, by_task, leading_at, task-line, tasks_by}

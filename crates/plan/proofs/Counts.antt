@@ -1,9 +1,9 @@
 -- The threads, moves and sends that are counted from the records are those of the program that they mean.
-use Rattle.std.proofs.Common.{◌≡◌, ℕ, zero, suc, ◌+◌, ◌<◌, Bool, true, false, cond, eqb, List, [], ◌∷◌, ◌++◌, map, length, get_or, ℤ, codes, sum_by, count_by, sym, refl, ap, ◌∙◌, subst, ap₂, arith}
+use Rattle.std.proofs.Common.{◌≡◌, ℕ, zero, suc, ◌+◌, ◌<◌, Bool, true, false, cond, eqb, List, [], ◌∷◌, ◌++◌, map, length, get_or, ℤ, sum_by, count_by, sym, refl, ap, ◌∙◌, ap₂, arith}
 use Rattle.std.proofs.lemmas.List.{length-map}
 use Rattle.std.proofs.lemmas.List.Recursion.{is_sum_by}
 use Rattle.std.proofs.lemmas.List.Sums.{sum_by-cons}
-use Rattle.std.proofs.lemmas.Bool.{and_from, and_left, cond-false, cond-true, eqb-true, lt-ltb}
+use Rattle.std.proofs.lemmas.Bool.{cond-true, lt-ltb}
 use Rattle.model.specs.Program.{Program, acquire, after, send_weight, moves, receive, release, send, sends, start, tally}
 use Rattle.model.specs.Threads.{Sound, Threads, at_start, by_thread, forest, main, tree, weight}
 use Rattle.model.proofs.Plans.{known, thread-laws}
@@ -13,7 +13,7 @@ use Rattle.tasks.specs.Records.{blank, is_operation, is_send, is_start, tasks_of
 use Rattle.tasks.specs.Threads.{body_of, brought, crew, moves_in, moves_of, sends_in, sends_of, starts, threads_in}
 use Rattle.tasks.proofs.Crews.{crew-rule}
 use Rattle.text.specs.Text.{byte}
-use Rattle.plan.specs.Good.{Checked, is_locking, is_receive}
+use Rattle.plan.specs.Good.{Checked, is_receive}
 use Rattle.plan.specs.Program.{natural, op_of, program_of}
 use Rattle.plan.proofs.Sections.{each_operation}
 use Rattle.plan.proofs.Sounds.{sound_program, start-above}

@@ -1,5 +1,5 @@
 -- What each line reader leaves in its record.
-use Rattle.std.proofs.Common.{◌≡◌, ℕ, zero, suc, ◌+◌, ◌-◌, ◌<◌, Bool, true, false, cond, ◌&&◌, T, eqb, List, [], ◌∷◌, map, length, get_or, take, ℤ, pos, negsuc, Some, None, Ok, Err, Option, Result, sym, refl, ap, ◌∙◌, subst, arith}
+use Rattle.std.proofs.Common.{◌≡◌, ℕ, zero, suc, ◌+◌, ◌-◌, ◌<◌, Bool, true, cond, ◌&&◌, T, eqb, List, [], map, length, get_or, take, ℤ, pos, negsuc, Some, None, Ok, Err, Option, Result, sym, refl, ap, ◌∙◌, subst, arith}
 use lib.Signed.{le_z, le_z_yes}
 use Rattle.std.specs.Option.{ok_or}
 use Rattle.std.specs.Result.{IfOk}
@@ -19,8 +19,8 @@ use Rattle.records.specs.declared.rows.TaskRow.{TaskRow}
 use Rattle.records.specs.Names.{named}
 use Rattle.records.specs.Order.{Written}
 use Rattle.reader.specs.Lines.{and_then, before, by_letter, counted, is_kind, letter_after, letter_of, level_at, may_follow, name_at, new_count, new_name, new_pair, not_zero, number_at, object_named, object_of, read_carry, read_count, read_header, read_line, read_object, read_send, read_start, read_task, read_use, same_kind, section_of, sound, task_above, task_named, word_at}
-use Rattle.reader.specs.Reading.{placed, read_next, read_rest}
-use Rattle.tasks.specs.Records.{blank, has_room, last_letter, objects_of, tasks_of}
+use Rattle.reader.specs.Reading.{read_rest}
+use Rattle.tasks.specs.Records.{blank, last_letter, objects_of, tasks_of}
 use Rattle.text.specs.declared.place.Line.{Line}
 use Rattle.text.specs.declared.place.Place.{Place}
 use Rattle.text.specs.Text.{byte, bytes_at, first_from, nowhere, within}

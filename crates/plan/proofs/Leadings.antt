@@ -7,7 +7,6 @@ use Rattle.std.proofs.lemmas.Bool.{both_ways, cases_Bool, cases_eq, cases_lt, co
 use Rattle.records.specs.declared.record.Record.{Record}
 use Rattle.records.specs.declared.rows.TaskRow.{TaskRow}
 use Rattle.tasks.specs.Records.{blank, is_task, no_task, task_row, tasks_from, tasks_in, tasks_of}
-use Rattle.tasks.specs.Threads.{front}
 use Rattle.tasks.proofs.Pushed.{tasks_push}
 
 -- the front of the elements from place m on

@@ -1,17 +1,17 @@
 -- The program that checked records mean is sound, and within the limits of a text.
-use Rattle.std.proofs.Common.{◌||◌, ◌≡◌, ℕ, zero, suc, ◌-◌, ◌<◌, Bool, true, false, cond, T, eqb, List, [], ◌∷◌, map, length, get_or, take, drop, ℤ, codes, sym, refl, ap, ◌∙◌, subst, arith}
+use Rattle.std.proofs.Common.{◌≡◌, ℕ, zero, suc, ◌-◌, ◌<◌, true, false, T, eqb, List, [], ◌∷◌, map, length, get_or, take, drop, ℤ, sym, refl, ap, ◌∙◌, subst, arith}
 use Rattle.std.proofs.lemmas.List.{get_or_default}
 use Rattle.std.proofs.lemmas.List.Folds.{Any-from_list_any}
 use Rattle.std.proofs.lemmas.Bool.{and_parts, eqb-true}
-use Rattle.model.specs.Program.{Op, Within, acquire, operation, receive, release, send, start, step_at}
+use Rattle.model.specs.Program.{Op, Within, operation, start, step_at}
 use Rattle.model.specs.Threads.{Sound}
 use Rattle.records.specs.declared.record.Record.{Record}
 use Rattle.reader.specs.Reading.{is_start_of}
-use Rattle.tasks.specs.Records.{blank, is_operation, is_send, is_start, no_task, objects_of, tasks_of}
+use Rattle.tasks.specs.Records.{blank, is_operation, is_start, no_task, objects_of, tasks_of}
 use Rattle.tasks.specs.Threads.{body_of}
-use Rattle.text.specs.Text.{byte, one_of, some}
-use Rattle.plan.specs.Good.{Checked, Good, Uses, is_locking, is_receive}
-use Rattle.plan.specs.Program.{counted_on, is_channel, natural, no_object, op_of, program_of}
+use Rattle.text.specs.Text.{byte}
+use Rattle.plan.specs.Good.{Checked, Good, Uses}
+use Rattle.plan.specs.Program.{counted_on, is_channel, no_object, op_of, program_of}
 use Rattle.plan.proofs.Bodies.{body_length, few_objects, stands, uses_whole}
 use Rattle.plan.proofs.Sections.{each_operation, operation_no_blank, operation-place, with_letter}
 
