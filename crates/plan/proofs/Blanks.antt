@@ -29,7 +29,7 @@ module _ (p : Record → Bool) (fails : p blank ≡ false) where
   pub leading_from : (k : ℕ) (rs : List Record) (n : ℕ) → prefix_len p (drop k (rs ++ replicate n blank)) ≡ prefix_len p (drop k rs)
   leading_from k rs n = from_blanks (prefix_len p) leading_blanks k rs n
 
-  pub front-from : (k : ℕ) (rs : List Record) (n : ℕ) → front p (drop k (rs ++ replicate n blank)) ≡ front p (drop k rs)
+  front-from : (k : ℕ) (rs : List Record) (n : ℕ) → front p (drop k (rs ++ replicate n blank)) ≡ front p (drop k rs)
   front-from k rs n = from_blanks (front p) front_blanks k rs n
 
 pub tasks_blanks : (line : ℕ) (rs : List Record) (n : ℕ) → tasks_from line (rs ++ replicate n blank) ≡ tasks_from line rs
@@ -42,7 +42,7 @@ operations_blanks rs n t =
     ap (λ k. front is_operation (drop (t.line + k) (rs ++ replicate n blank))) (leading_from is_count refl t.line rs n)
     ∙ front-from is_operation refl (first_operation rs t) rs n
 
-pub body_blanks : (rs : List Record) (n : ℕ) (tasks : List TaskRow) → body_of (rs ++ replicate n blank) tasks ≡ body_of rs tasks
+body_blanks : (rs : List Record) (n : ℕ) (tasks : List TaskRow) → body_of (rs ++ replicate n blank) tasks ≡ body_of rs tasks
 body_blanks rs n tasks = fun_ext (λ k. operations_blanks rs n (get_or tasks k no_task))
 
 pub threads_blanks : (rs : List Record) (n : ℕ) → threads_in (rs ++ replicate n blank) (tasks_of (rs ++ replicate n blank)) ≡ threads_in rs (tasks_of rs)

@@ -68,7 +68,7 @@ operation-room rs r h no-object no-task o =
     let b = (and_parts _ _ h).1 in
     ltb-true _ _ (sym (cond-true _ _ _ o) ∙ sym (cond-false _ _ _ no-task) ∙ sym (cond-false _ _ _ no-object) ∙ b)
 
-pub operation_no_object : (r : Record) → is_operation r ≡ true → is_object r ≡ false
+operation_no_object : (r : Record) → is_operation r ≡ true → is_object r ≡ false
 operation_no_object r e = each_operation (λ x. is_object x ≡ false) r (refl, (refl, (refl, (refl, (refl, tt))))) e
 
 module _ (rs : List Record) (room : Roomy rs) where
@@ -98,7 +98,7 @@ module _ (rs : List Record) (room : Roomy rs) where
       let next : m + p + 1 ≡ m + suc p = omega arith in
       omega (arith, open_run m p (omega arith), open_more (m + p) at.0 at.1, ap (λ n. open_operations (take n rs)) next)
 
-  pub short_run : (m n : ℕ) → n ≤ prefix_len is_operation (drop m rs) → n ≤ 512
+  short_run : (m n : ℕ) → n ≤ prefix_len is_operation (drop m rs) → n ≤ 512
   short_run m zero h = omega arith
   short_run m (suc p) h =
       let at = leading_at is_operation blank rs m p (omega arith) in

@@ -64,7 +64,7 @@ checked_blanks rs n good room few done =
       main_counts = leading_from is_count refl (last_task_line (tasks_of (rs ++ replicate n blank))) rs n ∙ ap (λ ts. prefix_len is_count (drop (last_task_line ts) rs)) same ∙ main;
     }
 
-pub checked-shown : (o : Written) (text : List ℕ) (sheet : List Record) → Shows (reading o text (length sheet)) sheet → Checked (records_in sheet)
+checked-shown : (o : Written) (text : List ℕ) (sheet : List Record) → Shows (reading o text (length sheet)) sheet → Checked (records_in sheet)
 checked-shown o text sheet s =
     let l = lines-shown o text sheet s in
     let rs = l.records in
@@ -96,7 +96,7 @@ good_prop rs r x y = λ i. record {
   starts = λ e. le_prop (x.starts e) (y.starts e) i;
 }
 
-pub checked_prop : (rs : List Record) → IsProp (Checked rs)
+checked_prop : (rs : List Record) → IsProp (Checked rs)
 checked_prop rs x y = λ i. record {
   good = λ j h w. good_prop (take j rs) (get_or rs j blank) (x.good j h w) (y.good j h w) i;
   roomy = λ j h. Bool-set _ _ (x.roomy j h) (y.roomy j h) i;

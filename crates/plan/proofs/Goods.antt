@@ -176,7 +176,7 @@ module _ (o : Written) (text : List ℕ) (rs : List Record) (l : Line) where
       tt))))))))))
 
   -- the record of a line that was read
-  pub line-good : GivesGood (read_line o (before text rs) l)
+  line-good : GivesGood (read_line o (before text rs) l)
   line-good =
       step (sound text l) _ (λ _ _.
       step (letter_after text rs l) _ (λ c read.

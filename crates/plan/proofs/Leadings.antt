@@ -64,7 +64,7 @@ module _ (rs : List Record) where
       let row = task_row (1 + i) (get_or rs i blank) in
       ap length (tasks_more i h ∙ ap (λ ts. tasks_of (take i rs) ++ ts) (cond-true _ (row ∷ []) [] e)) ∙ length_push (tasks_of (take i rs)) row
 
-  pub by_other : (i : ℕ) → i < length rs → is_task (get_or rs i blank) ≡ false → tasks_by rs (i + 1) ≡ tasks_by rs i
+  by_other : (i : ℕ) → i < length rs → is_task (get_or rs i blank) ≡ false → tasks_by rs (i + 1) ≡ tasks_by rs i
   by_other i h e =
       let row = task_row (1 + i) (get_or rs i blank) in
       let none : List TaskRow = [] in

@@ -58,10 +58,10 @@ inner c e =
     let later = or_parts _ _ (or_parts (may_follow Nothing c) _ e).1 in
     record { nothing = (or_parts (may_follow Nothing c) _ e).0; header = later.0; objects = later.0; carries = later.1 }
 
-pub count_inner : (r : Record) → is_count r ≡ true → Inner r.letter
+count_inner : (r : Record) → is_count r ≡ true → Inner r.letter
 count_inner r e = with_letter (λ x. Inner x.letter) r (byte "Q") (inner _ refl) e
 
-pub operation_inner : (r : Record) → is_operation r ≡ true → Inner r.letter
+operation_inner : (r : Record) → is_operation r ≡ true → Inner r.letter
 operation_inner r e = each_operation (λ x. Inner x.letter) r (inner _ refl, (inner _ refl, (inner _ refl, (inner _ refl, (inner _ refl, tt))))) e
 
 after_inner : (p o w t q s : Bool) (c : ℕ) → Inner c
@@ -76,20 +76,20 @@ after_inner false false false false false true c n e = inr (inr (refl, e))
 after_inner false false false false false false c n e = no (sym n.nothing ∙ e)
 
 module _ (rs : List Record) (good : (i : ℕ) → i < length rs → ((get_or rs i blank).letter ≡ 0 → ⊥) → Good (take i rs) (get_or rs i blank)) where
-  letter_before : (i : ℕ) → i < length rs → last_letter (take (i + 1) rs) ≡ (get_or rs i blank).letter
+  letter_before : (i : ℕ) → i < length rs → last_letter (take (suc i) rs) ≡ (get_or rs i blank).letter
   letter_before i h =
-      let size : length (take (i + 1) rs) - 1 ≡ i = omega (arith, length-take-le (i + 1) rs (omega arith)) in
-      ap (λ n. (get_or (take (i + 1) rs) n blank).letter) size ∙ ap (λ (r : Record). r.letter) (get_or-take (i + 1) rs i blank (omega arith))
+      let size : length (take (suc i) rs) - 1 ≡ i = omega (arith, length-take-le (suc i) rs (omega arith)) in
+      ap (λ n. (get_or (take (suc i) rs) n blank).letter) size ∙ ap (λ (r : Record). r.letter) (get_or-take (suc i) rs i blank (omega arith))
 
   -- what stands before a record of a task
-  comes_after : (i : ℕ) → i + 1 < length rs → ((get_or rs (i + 1) blank).letter ≡ 0 → ⊥) → Inner (get_or rs (i + 1) blank).letter
-      → (is_task (get_or rs i blank) ≡ true) ⊎ ((is_count (get_or rs i blank) ≡ true) ⊎ ((is_operation (get_or rs i blank) ≡ true) × (may_follow Operations (get_or rs (i + 1) blank).letter ≡ true)))
+  comes_after : (i : ℕ) → suc i < length rs → ((get_or rs (suc i) blank).letter ≡ 0 → ⊥) → Inner (get_or rs (suc i) blank).letter
+      → (is_task (get_or rs i blank) ≡ true) ⊎ ((is_count (get_or rs i blank) ≡ true) ⊎ ((is_operation (get_or rs i blank) ≡ true) × (may_follow Operations (get_or rs (suc i) blank).letter ≡ true)))
   comes_after i h written n =
-      let follows : may_follow (section_of (get_or rs i blank).letter) (get_or rs (i + 1) blank).letter ≡ true =
-      subst (λ c. may_follow (section_of c) (get_or rs (i + 1) blank).letter ≡ true) (letter_before i (omega arith)) (good (i + 1) h written).follows in
+      let follows : may_follow (section_of (get_or rs i blank).letter) (get_or rs (suc i) blank).letter ≡ true =
+      subst (λ c. may_follow (section_of c) (get_or rs (suc i) blank).letter ≡ true) (letter_before i (omega arith)) (good (suc i) h written).follows in
       let c = (get_or rs i blank).letter in
       after_inner (eqb c (byte "P")) (one_of c (codes "CK")) (eqb c (byte "W")) (is_task (get_or rs i blank)) (is_count (get_or rs i blank)) (is_operation (get_or rs i blank))
-      (get_or rs (i + 1) blank).letter n follows
+      (get_or rs (suc i) blank).letter n follows
 
   not_first : Inner (get_or rs 0 blank).letter → ((get_or rs 0 blank).letter ≡ 0 → ⊥) → 0 < length rs → ⊥
   not_first n written h = false≢true (sym n.nothing ∙ (good 0 h written).follows)
@@ -101,7 +101,7 @@ module _ (rs : List Record) (good : (i : ℕ) → i < length rs → ((get_or rs 
   abbrev start_at : ℕ → ℕ
   start_at k = first_operation rs (get_or (tasks_of rs) k no_task)
 
-  task-place : (i : ℕ) → i < length rs → is_task (get_or rs i blank) ≡ true → (tasks_by rs i < length (tasks_of rs)) × (line_at (tasks_by rs i) ≡ i + 1)
+  task-place : (i : ℕ) → i < length rs → is_task (get_or rs i blank) ≡ true → (tasks_by rs i < length (tasks_of rs)) × (line_at (tasks_by rs i) ≡ suc i)
   task-place i h e =
       let row = ap (λ (t : TaskRow). t.line) (row_here rs i h e) in
       (omega (arith, by_task rs i h e, by_whole rs (i + 1) (omega arith)), omega (arith, row))
@@ -110,47 +110,40 @@ module _ (rs : List Record) (good : (i : ℕ) → i < length rs → ((get_or rs 
   count-place : (i : ℕ) → i < length rs → is_count (get_or rs i blank) ≡ true → (k : ℕ) × (c : ℕ) × (k < length (tasks_of rs)) × (c < prefix_len is_count (drop (line_at k) rs)) × (line_at k + c ≡ i)
   count-place zero h e = absurd (not_first (count_inner (get_or rs 0 blank) e) (count_no_blank (get_or rs 0 blank) e) h)
   count-place (suc j) h e =
-      let next : suc j ≡ j + 1 = omega arith in
-      let q : is_count (get_or rs (j + 1) blank) ≡ true = subst (λ n. is_count (get_or rs n blank) ≡ true) next e in
       ⊎_elim
       (λ (task : is_task (get_or rs j blank) ≡ true).
       let t = task-place j (omega arith) task in
-      let more = prefix_len-drop_yes is_count rs (j + 1) blank (omega arith) q in
+      let more = prefix_len-drop_yes is_count rs (suc j) blank (omega arith) e in
       (tasks_by rs j, 0, t.0, omega (arith, more, ap (λ n. prefix_len is_count (drop n rs)) t.1), omega (arith, t.1)))
       (⊎_elim
       (λ (count : is_count (get_or rs j blank) ≡ true).
       let r = count-place j (omega arith) count in
-      let here : line_at r.0 + (r.1 + 1) ≡ j + 1 = omega (arith, r.4) in
-      let more = leading_on is_count blank rs (line_at r.0) (r.1 + 1) (j + 1) here (omega (arith, r.3)) (omega arith) q in
+      let more = leading_on is_count blank rs (line_at r.0) (r.1 + 1) (suc j) (omega (arith, r.4)) (omega (arith, r.3)) (omega arith) e in
       (r.0, r.1 + 1, r.2, more, omega (arith, r.4)))
-      (λ (other : (is_operation (get_or rs j blank) ≡ true) × (may_follow Operations (get_or rs (j + 1) blank).letter ≡ true)).
-      no (sym (with_letter (λ x. may_follow Operations x.letter ≡ false) (get_or rs (j + 1) blank) (byte "Q") refl q) ∙ other.1)))
-      (comes_after j (omega arith) (count_no_blank (get_or rs (j + 1) blank) q) (count_inner (get_or rs (j + 1) blank) q))
+      (λ (other : (is_operation (get_or rs j blank) ≡ true) × (may_follow Operations (get_or rs (suc j) blank).letter ≡ true)).
+      no (sym (with_letter (λ x. may_follow Operations x.letter ≡ false) (get_or rs (suc j) blank) (byte "Q") refl e) ∙ other.1)))
+      (comes_after j (omega arith) (count_no_blank (get_or rs (suc j) blank) e) (count_inner (get_or rs (suc j) blank) e))
 
   -- an operation stands among those of a task
   pub operation-place : (i : ℕ) → i < length rs → is_operation (get_or rs i blank) ≡ true
       → (k : ℕ) × (p : ℕ) × (k < length (tasks_of rs)) × (p < prefix_len is_operation (drop (start_at k) rs)) × (start_at k + p ≡ i)
   operation-place zero h e = absurd (not_first (operation_inner (get_or rs 0 blank) e) (operation_no_blank (get_or rs 0 blank) e) h)
   operation-place (suc j) h e =
-      let next : suc j ≡ j + 1 = omega arith in
-      let o : is_operation (get_or rs (j + 1) blank) ≡ true = subst (λ n. is_operation (get_or rs n blank) ≡ true) next e in
-      let first = prefix_len-drop_yes is_operation rs (j + 1) blank (omega arith) o in
+      let first = prefix_len-drop_yes is_operation rs (suc j) blank (omega arith) e in
       ⊎_elim
       (λ (task : is_task (get_or rs j blank) ≡ true).
       let t = task-place j (omega arith) task in
-      let none = prefix_len-drop_no is_count rs (j + 1) blank (omega arith) (operation_no_count (get_or rs (j + 1) blank) o) in
-      let start : start_at (tasks_by rs j) ≡ j + 1 = omega (arith, none, t.1, ap (λ n. prefix_len is_count (drop n rs)) t.1) in
+      let none = prefix_len-drop_no is_count rs (suc j) blank (omega arith) (operation_no_count (get_or rs (suc j) blank) e) in
+      let start : start_at (tasks_by rs j) ≡ suc j = omega (arith, none, t.1, ap (λ n. prefix_len is_count (drop n rs)) t.1) in
       (tasks_by rs j, 0, t.0, omega (arith, first, ap (λ n. prefix_len is_operation (drop n rs)) start), omega (arith, start)))
       (⊎_elim
       (λ (count : is_count (get_or rs j blank) ≡ true).
       let r = count-place j (omega arith) count in
-      let here : line_at r.0 + (r.1 + 1) ≡ j + 1 = omega (arith, r.4) in
-      let size = leading_stops is_count blank rs (line_at r.0) (r.1 + 1) (j + 1) here (omega (arith, r.3)) (operation_no_count (get_or rs (j + 1) blank) o) in
-      let start : start_at r.0 ≡ j + 1 = omega (arith, size, r.4) in
+      let size = leading_stops is_count blank rs (line_at r.0) (r.1 + 1) (suc j) (omega (arith, r.4)) (omega (arith, r.3)) (operation_no_count (get_or rs (suc j) blank) e) in
+      let start : start_at r.0 ≡ suc j = omega (arith, size, r.4) in
       (r.0, 0, r.2, omega (arith, first, ap (λ n. prefix_len is_operation (drop n rs)) start), omega (arith, start)))
-      (λ (operation : (is_operation (get_or rs j blank) ≡ true) × (may_follow Operations (get_or rs (j + 1) blank).letter ≡ true)).
+      (λ (operation : (is_operation (get_or rs j blank) ≡ true) × (may_follow Operations (get_or rs (suc j) blank).letter ≡ true)).
       let r = operation-place j (omega arith) operation.0 in
-      let here : start_at r.0 + (r.1 + 1) ≡ j + 1 = omega (arith, r.4) in
-      let more = leading_on is_operation blank rs (start_at r.0) (r.1 + 1) (j + 1) here (omega (arith, r.3)) (omega arith) o in
+      let more = leading_on is_operation blank rs (start_at r.0) (r.1 + 1) (suc j) (omega (arith, r.4)) (omega (arith, r.3)) (omega arith) e in
       (r.0, r.1 + 1, r.2, more, omega (arith, r.4))))
-      (comes_after j (omega arith) (operation_no_blank (get_or rs (j + 1) blank) o) (operation_inner (get_or rs (j + 1) blank) o))
+      (comes_after j (omega arith) (operation_no_blank (get_or rs (suc j) blank) e) (operation_inner (get_or rs (suc j) blank) e))
