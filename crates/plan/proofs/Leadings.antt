@@ -3,11 +3,10 @@ use Rattle.std.proofs.Common.{◌≡◌, ℕ, zero, suc, ◌+◌, ◌<◌, ◌�
 use Rattle.std.specs.List.{prefix_len}
 use Rattle.std.proofs.lemmas.List.{get_or_at, get_or-drop, length-append, length-drop, length_push, length-take-le, take_all, take-append-drop, take_more, drop_more}
 use Rattle.std.proofs.lemmas.List.Sums.{prefix_len-le-length, prefix_len_passes, prefix_len_stops}
-use Rattle.std.proofs.lemmas.Bool.{both_ways, cases_Bool, cases_eq, cases_lt, cond-true, cond-false}
+use Rattle.std.proofs.lemmas.Bool.{both_ways, cases_Bool, cases_lt, cond-true, cond-false}
 use Rattle.records.specs.declared.record.Record.{Record}
 use Rattle.records.specs.declared.rows.TaskRow.{TaskRow}
 use Rattle.tasks.specs.Records.{blank, is_task, no_task, task_row, tasks_from, tasks_in, tasks_of}
-use Rattle.tasks.proofs.Pushed.{tasks_push}
 
 -- the front of the elements from place m on
 module _ {A : Type 0} (p : A → Bool) (d : A) (xs : List A) (m : ℕ) where
@@ -41,14 +40,12 @@ module _ {A : Type 0} (p : A → Bool) (d : A) (xs : List A) (m : ℕ) where
 abbrev pub tasks_by : List Record → ℕ → ℕ
 tasks_by rs i = length (tasks_of (take i rs))
 
-pub tasks-append : (n : ℕ) (xs ys : List Record) → tasks_from n (xs ++ ys) ≡ tasks_from n xs ++ tasks_from (n + length xs) ys
-tasks-append n [] ys = let e : n ≡ n + 0 = omega arith in ap (λ k. tasks_from k ys) e
-tasks-append n (x ∷ xs) ys =
-    let next : n + 1 + length xs ≡ n + suc (length xs) = omega arith in
-    let rest : tasks_from (n + 1) (xs ++ ys) ≡ tasks_from (n + 1) xs ++ tasks_from (n + suc (length xs)) ys =
-    tasks-append (n + 1) xs ys ∙ ap (λ k. tasks_from (n + 1) xs ++ tasks_from k ys) next in
+tasks-append : (n m : ℕ) (xs ys : List Record) → n + length xs ≡ m → tasks_from n (xs ++ ys) ≡ tasks_from n xs ++ tasks_from m ys
+tasks-append n m [] ys e = ap (λ k. tasks_from k ys) (omega arith)
+tasks-append n m (x ∷ xs) ys e =
+    let rest = tasks-append (n + 1) m xs ys (omega arith) in
     elim (is_task x) as (λ b. cond b (task_row n x ∷ tasks_from (n + 1) (xs ++ ys)) (tasks_from (n + 1) (xs ++ ys))
-    ≡ cond b (task_row n x ∷ tasks_from (n + 1) xs) (tasks_from (n + 1) xs) ++ tasks_from (n + suc (length xs)) ys) [
+    ≡ cond b (task_row n x ∷ tasks_from (n + 1) xs) (tasks_from (n + 1) xs) ++ tasks_from m ys) [
       | true ↦ ap (λ ts. task_row n x ∷ ts) rest
       | false ↦ rest
     ]
@@ -56,8 +53,7 @@ tasks-append n (x ∷ xs) ys =
 module _ (rs : List Record) where
   tasks_more : (i : ℕ) → i < length rs → tasks_of (take (i + 1) rs) ≡ tasks_of (take i rs) ++ tasks_in (1 + i) (get_or rs i blank)
   tasks_more i h =
-      ap tasks_of (take_more rs i blank h) ∙ tasks_push 1 (take i rs) (get_or rs i blank)
-      ∙ ap (λ n. tasks_of (take i rs) ++ tasks_in (1 + n) (get_or rs i blank)) (length-take-le i rs (omega arith))
+      ap tasks_of (take_more rs i blank h) ∙ tasks-append 1 (1 + i) (take i rs) (get_or rs i blank ∷ []) (omega (arith, length-take-le i rs (omega arith)))
 
   pub by_task : (i : ℕ) → i < length rs → is_task (get_or rs i blank) ≡ true → tasks_by rs (i + 1) ≡ tasks_by rs i + 1
   by_task i h e =
@@ -72,9 +68,7 @@ module _ (rs : List Record) where
       omega (arith, size, length-append (tasks_of (take i rs)) none)
 
   tasks-split : (i : ℕ) → i ≤ length rs → tasks_of rs ≡ tasks_of (take i rs) ++ tasks_from (1 + i) (drop i rs)
-  tasks-split i h =
-      ap tasks_of (sym (take-append-drop i rs)) ∙ tasks-append 1 (take i rs) (drop i rs)
-      ∙ ap (λ n. tasks_of (take i rs) ++ tasks_from (1 + n) (drop i rs)) (length-take-le i rs h)
+  tasks-split i h = ap tasks_of (sym (take-append-drop i rs)) ∙ tasks-append 1 (1 + i) (take i rs) (drop i rs) (omega (arith, length-take-le i rs h))
 
   pub by_whole : (i : ℕ) → i ≤ length rs → tasks_by rs i ≤ length (tasks_of rs)
   by_whole i h = omega (arith, ap length (tasks-split i h), length-append (tasks_of (take i rs)) (tasks_from (1 + i) (drop i rs)))
@@ -93,20 +87,16 @@ module _ (rs : List Record) where
   task-at : (i k : ℕ) → i ≤ length rs → k < tasks_by rs i → (j : ℕ) × (j < i) × (is_task (get_or rs j blank) ≡ true) × (tasks_by rs j ≡ k)
   task-at zero k h l = absurd (omega arith)
   task-at (suc i) k h l =
+      ⊎_elim
+      (λ (earlier : k < tasks_by rs i). let r = task-at i k (omega arith) earlier in (r.0, omega (arith, r.1), r.2, r.3))
+      (λ (here : tasks_by rs i ≤ k).
       let next : i + 1 ≡ suc i = omega arith in
-      let count : tasks_by rs (i + 1) ≡ tasks_by rs (suc i) = ap (tasks_by rs) next in
+      let count = ap (tasks_by rs) next in
       ⊎_elim
-      (λ (yes : is_task (get_or rs i blank) ≡ true).
-      ⊎_elim
-      (λ (same : tasks_by rs i ≡ k). (i, omega arith, yes, same))
-      (λ (other : tasks_by rs i ≡ k → ⊥).
-      let r = task-at i k (omega arith) (omega (arith, by_task i (omega arith) yes, count)) in
-      (r.0, omega (arith, r.1), r.2, r.3))
-      (cases_eq (tasks_by rs i) k))
-      (λ (not-here : is_task (get_or rs i blank) ≡ false).
-      let r = task-at i k (omega arith) (omega (arith, by_other i (omega arith) not-here, count)) in
-      (r.0, omega (arith, r.1), r.2, r.3))
-      (cases_Bool (is_task (get_or rs i blank)))
+      (λ (yes : is_task (get_or rs i blank) ≡ true). (i, omega arith, yes, omega (arith, by_task i (omega arith) yes, count)))
+      (λ (other : is_task (get_or rs i blank) ≡ false). absurd (omega (arith, by_other i (omega arith) other, count)))
+      (cases_Bool (is_task (get_or rs i blank))))
+      (cases_lt k (tasks_by rs i))
 
   -- records that are no T lines leave the number of tasks
   pub by_run : (p : Record → Bool) → ((r : Record) → p r ≡ true → is_task r ≡ false) → (m n : ℕ) → n ≤ prefix_len p (drop m rs) → tasks_by rs (m + n) ≡ tasks_by rs m
