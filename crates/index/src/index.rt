@@ -7,7 +7,8 @@ use records::limits::{MOST_OBJECTS, MOST_TASKS};
 use std::array;
 use tasks::Tasks;
 
-// For each channel what a message on it carries of each channel, and for each task its entry.
+// For each channel what a message on it carries of each channel, and for each task its entry. Tables by number, and no lists:
+// past the channels and the tasks they read as nothing.
 #[derive(Clone, Copy)]
 pub struct Index {
     pub carried: [[i32; MOST_OBJECTS]; MOST_OBJECTS],

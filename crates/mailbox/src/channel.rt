@@ -12,7 +12,7 @@ pub struct Channel {
 }
 
 impl Channel {
-    // A number above 31 has no list.
+    // A number above 31 has no list. An Option and no TryFrom: nobody tells why.
     pub fn of(number: usize) -> Option<Channel>
         ensures { MatchOption result (31 < number) (λ channel. channel.number ≡ number) }
     {

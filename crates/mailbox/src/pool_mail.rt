@@ -21,7 +21,7 @@ impl<'a, T: Copy> Pool<'a, T> {
         Pool::unused(memory)
     }
 
-    // A pool of which no entry is in use.
+    // A pool of which no entry is in use. Apart from `new`, so that the invariant is shown before the lists are looked at.
     fn unused(memory: &'a mut [Entry<T>]) -> Pool<'a, T>
         ensures count { result.count ≡ 0 }
         ensures memory { length result.memory.now ≡ length memory.old }

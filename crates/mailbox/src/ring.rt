@@ -6,6 +6,7 @@ use crate::channel::CHANNELS;
 
 // How the messages of a channel stand in its lane: the place of the first, and how many wait from there on. Past its
 // end a lane goes on at its start.
+// The size of a lane is that of all lanes, so it is handed in, and that a ring is within it is required and no invariant.
 #[derive(Clone, Copy)]
 pub(crate) struct Ring {
     pub(crate) head: usize,
@@ -19,6 +20,8 @@ impl Ring {
     {
         [Ring { head: 0, count: 0 }; CHANNELS]
     }
+
+    // The two places of a ring stand apart, so that a contract says which is which.
 
     // The place of the first message, in a lane of this size.
     pub(crate) fn first_place(self, size: usize) -> usize

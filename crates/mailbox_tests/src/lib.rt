@@ -49,7 +49,8 @@ pub fn has_room<M1: Mailbox>(mailbox: &M1, room: usize) -> bool {
     (0..CHANNELS).all(|channel| mailbox.room(channel) == room)
 }
 
-// A call to a mailbox of words, with the answer that is expected. Fields by place, since a test reads as a table of calls.
+// A call to a mailbox of words, with the answer that is expected. Data and no closures, with fields by place, since a test
+// reads as a table of calls, which two kinds of mailbox answer.
 #[derive(Clone, Copy)]
 pub enum Call {
     Put(usize, u16, bool),

@@ -1,9 +1,11 @@
 -- What is legal breaks no rule, and what breaks none is legal. Assumes nothing.
-use Rattle.std.proofs.Common.{◌≡◌, ℕ, zero, suc, ◌<◌, ◌≤◌, Bool, true, false, cond, not, ◌&&◌, ◌||◌, T, List, [], ◌∷◌, length, pos, ◌≤ℤ◌, Some, None, Option, sym, refl, ap, ◌∙◌, subst, inl, inr, arith}
-use lib.Signed.{le_z, lt_z}
+use Rattle.std.proofs.Common.{◌≡◌, ℕ, zero, suc, ◌≤◌, Bool, not, T, List, [], ◌∷◌, length, pos, Some, None, Option, sym, refl, ap, ◌∙◌, subst, inl, inr, arith}
+use lib.Signed.{le_z}
+use Rattle.std.proofs.lemmas.Bool.{not-true, and_parts, or_cases, cases_Bool, and_from, or_left, or_right, not_from_false, cond-true, cond-false, true_from_ne_false}
+use Rattle.std.proofs.lemmas.Float.{T_from_true}
 use Rattle.model.specs.Program.{Op, send, receive, acquire, release, start, Account, Locks, Program, Step, operation, closing, step_at}
 use Rattle.model.specs.Rules.{Offence, first_number_from, breaks, or_else, owes, busy, account_at, locks_at, unsettled, bars, breach, offence, Cleared}
-use Rattle.model.proofs.Searches.{not_none, is_true, true_is, false_is, first-none, none_first}
+use Rattle.model.proofs.Searches.{not_none, is_true, false_is, first-none, none_first}
 use Rattle.model.proofs.Tools.{At, Busy, Settled, Under, Permitted, Walkable}
 use Rattle.model.proofs.Walks.{at-below}
 
@@ -11,13 +13,9 @@ breaks-none : (n : ℕ) (r : Option ℕ) → breaks n r ≡ None → r ≡ None
 breaks-none n None e = refl
 breaks-none n (Some x) e = not_none e
 
-or_left : (a b : Option Offence) → or_else a b ≡ None → a ≡ None
-or_left None b e = refl
-or_left (Some x) b e = not_none e
-
-or_right : (a b : Option Offence) → or_else a b ≡ None → b ≡ None
-or_right None b e = e
-or_right (Some x) b e = not_none e
+neither : (a b : Option Offence) → or_else a b ≡ None → (a ≡ None) × (b ≡ None)
+neither None b e = (refl, e)
+neither (Some x) b e = not_none e
 
 -- steps of a list of operations by number
 module _ {Message : Type 0} where
@@ -53,20 +51,11 @@ module _ {Message : Type 0} where
 module _ {Level Message : Type 0} (P : Program Level Message) where
   -- the test and the fact that an object is owed or held
   pub busy-fact : (a : Account) (h : Locks) (x : ℕ) → T (busy a h x) → Busy a h x
-  busy-fact a h x t = go (lt_z (a x) (pos 0)) refl (h x) refl t
-    where
-      go : (b : Bool) → lt_z (a x) (pos 0) ≡ b → (c : Bool) → h x ≡ c → T (b || c) → Busy a h x
-      go true e c f t = inl (record { lt = true_is _ e })
-      go false e true f t = inr (true_is _ f)
-      go false e false f t = absurd t
+  busy-fact a h x t = elim (or_cases (owes a x) (h x) (is_true _ t)) [ inl e ↦ inl (record { lt = T_from_true _ e }) | inr e ↦ inr (T_from_true _ e) ]
 
   pub fact-busy : (a : Account) (h : Locks) (x : ℕ) → Busy a h x → T (busy a h x)
-  fact-busy a h x (inl owed) = subst (λ (b : Bool). T (b || h x)) (sym (is_true _ owed.lt)) tt
-  fact-busy a h x (inr held) = go (lt_z (a x) (pos 0))
-    where
-      go : (b : Bool) → T (b || h x)
-      go true = tt
-      go false = held
+  fact-busy a h x (inl owed) = T_from_true _ (or_left (owes a x) (h x) (is_true _ owed.lt))
+  fact-busy a h x (inr held) = T_from_true _ (or_right (owes a x) (h x) (is_true _ held))
 
   pub settled-none : (a : Account) (h : Locks) → Settled P a h → unsettled P a h ≡ None
   settled-none a h s =
@@ -74,48 +63,37 @@ module _ {Level Message : Type 0} (P : Program Level Message) where
       ∙ ap (breaks 26) (first-none h 0 P.objects (λ x l m t. s x (omega arith) (inr t)))
 
   pub none-settled : (a : Account) (h : Locks) → unsettled P a h ≡ None → Settled P a h
-  none-settled a h e x l (inl owed) = none_first (owes a) 0 P.objects (breaks-none 25 _ (or_left _ _ e)) x (omega arith) (omega arith) owed.lt
-  none-settled a h e x l (inr held) = none_first h 0 P.objects (breaks-none 26 _ (or_right _ _ e)) x (omega arith) (omega arith) held
+  none-settled a h e x l (inl owed) = none_first (owes a) 0 P.objects (breaks-none 25 _ (neither _ _ e).0) x (omega arith) (omega arith) owed.lt
+  none-settled a h e x l (inr held) = none_first h 0 P.objects (breaks-none 26 _ (neither _ _ e).1) x (omega arith) (omega arith) held
 
   module _ (below : Level → Level → Bool) where
     under_first : (o : ℕ) (a : Account) (h : Locks) → Under P below o a h → first_number_from (bars P below o a h) 0 P.objects ≡ None
-    under_first o a h u = first-none (bars P below o a h) 0 P.objects (λ x l m t. go x (omega arith) (busy a h x) refl (below (P.level x) (P.level o)) refl t)
-      where
-        go : (x : ℕ) → x < P.objects → (b : Bool) → busy a h x ≡ b → (c : Bool) → below (P.level x) (P.level o) ≡ c → T (b && not c) → ⊥
-        go x l true e true f t = t
-        go x l true e false f t = false_is _ f (u x l (busy-fact a h x (true_is _ e)))
-        go x l false e c f t = t
+    under_first o a h u = first-none (bars P below o a h) 0 P.objects (λ x l m t.
+        let q = and_parts (busy a h x) (not (below (P.level x) (P.level o))) (is_true _ t) in
+        false_is _ (not-true _ q.1) (u x (omega arith) (busy-fact a h x (T_from_true _ q.0))))
 
     first_under : (o : ℕ) (a : Account) (h : Locks) → first_number_from (bars P below o a h) 0 P.objects ≡ None → Under P below o a h
-    first_under o a h e x l b = go (below (P.level x) (P.level o)) refl
-      where
-        go : (c : Bool) → below (P.level x) (P.level o) ≡ c → T (below (P.level x) (P.level o))
-        go true f = true_is _ f
-        go false f = absurd (none_first (bars P below o a h) 0 P.objects e x (omega arith) (omega arith)
-            (subst (λ (c : Bool). T (busy a h x && not c)) (sym f) (subst (λ (d : Bool). T (d && true)) (sym (is_true _ (fact-busy a h x b))) tt)))
+    first_under o a h e x l b = T_from_true _ (true_from_ne_false _ (λ f.
+        none_first (bars P below o a h) 0 P.objects e x (omega arith) (omega arith)
+        (T_from_true _ (and_from (busy a h x) (not (below (P.level x) (P.level o))) (is_true _ (fact-busy a h x b)) (not_from_false _ f)))))
 
     pub legal-none : (o : Op Message) (a : Account) (h : Locks) → Permitted P below o a h → breach P below o a h ≡ None
     legal-none (send c m) a h l = refl
     legal-none (receive c) a h l =
-        ap (λ (b : Bool). cond b (breaks 22 (first_number_from (bars P below c a h) 0 P.objects)) (Some (record { number = 21; object = c }))) (is_true _ l.0.le)
+        cond-true _ _ (Some (record { number = 21; object = c })) (is_true _ l.0.le)
         ∙ ap (breaks 22) (under_first c a h l.1)
     legal-none (acquire k) a h l = ap (breaks 23) (under_first k a h l)
-    legal-none (release k) a h l = ap (λ (b : Bool). cond b None (Some (record { number = 24; object = k }))) (is_true _ l)
+    legal-none (release k) a h l = cond-true (h k) None _ (is_true _ l)
     legal-none (start u) a h l = refl
 
     pub none-legal : (o : Op Message) (a : Account) (h : Locks) → breach P below o a h ≡ None → Permitted P below o a h
     none-legal (send c m) a h e = tt
-    none-legal (receive c) a h e = go (le_z (pos 1) (a c)) refl
-      where
-        go : (b : Bool) → le_z (pos 1) (a c) ≡ b → (pos 1 ≤ℤ a c) × Under P below c a h
-        go true q = (record { le = true_is _ q }, first_under c a h (breaks-none 22 _ (sym (ap (λ (b : Bool). cond b (breaks 22 (first_number_from (bars P below c a h) 0 P.objects)) (Some (record { number = 21; object = c }))) q) ∙ e)))
-        go false q = not_none (sym (ap (λ (b : Bool). cond b (breaks 22 (first_number_from (bars P below c a h) 0 P.objects)) (Some (record { number = 21; object = c }))) q) ∙ e)
+    none-legal (receive c) a h e = elim (cases_Bool (le_z (pos 1) (a c))) [
+      | inl q ↦ (record { le = T_from_true _ q }, first_under c a h (breaks-none 22 _ (sym (cond-true _ _ _ q) ∙ e)))
+      | inr q ↦ not_none (sym (cond-false _ _ _ q) ∙ e)
+    ]
     none-legal (acquire k) a h e = first_under k a h (breaks-none 23 _ e)
-    none-legal (release k) a h e = go (h k) refl
-      where
-        go : (b : Bool) → h k ≡ b → T (h k)
-        go true q = true_is _ q
-        go false q = not_none (sym (ap (λ (b : Bool). cond b None (Some (record { number = 24; object = k }))) q) ∙ e)
+    none-legal (release k) a h e = T_from_true _ (true_from_ne_false _ (λ q. not_none (sym (cond-false _ _ _ q) ∙ e)))
     none-legal (start u) a h e = tt
 
     -- Cleared, by operations and closings.

@@ -1,8 +1,8 @@
 -- A move that the rules grant can be made, so a cleared program can be brought home from every point. Assumes nothing.
-use Rattle.std.proofs.Common.{◌≡◌, ℕ, zero, suc, ◌+◌, ◌≤◌, Bool, true, false, cond, T, eqb, ◌≢◌, List, [], ◌∷◌, length, sym, refl, ap, ◌∙◌, subst, inl, inr, arith, eqb→eq}
-use lib.Dec.{eqb_refl}
+use Rattle.std.proofs.Common.{◌≡◌, ℕ, zero, suc, ◌+◌, ◌≤◌, Bool, cond, eqb, ◌≢◌, List, [], ◌∷◌, length, sym, refl, ap, ◌∙◌, subst, inl, inr, arith, eq-eqb, ne_eqb}
+use Rattle.std.proofs.lemmas.Bool.{cond-true, cond-false}
 use Rattle.model.specs.History.{Entry, Attempts, no_attempt, attempted, History, grants}
-use Rattle.model.specs.Machine.{running, home, Thread, Machine, granted, next_line, Delivered, Woken, Performed, Closed}
+use Rattle.model.specs.Machine.{running, home, Thread, Machine, granted, next_line, Delivered, Wakes, Woken, Apart, Performed, Closed}
 use Rattle.model.specs.Mailbox.{MailboxKind, Take}
 use Rattle.model.specs.Program.{Op, send, receive, acquire, release, start, Account, Locks, Program, moves}
 use Rattle.model.specs.Promises.{AllHome, Serves, Completes, ClearedMore}
@@ -25,103 +25,100 @@ module _ {A : Type 0} (f : ℕ → A) (t : ℕ) (a : A) where
 
   pub replaced-here : replaced t ≡ a
   unfolding replaced
-  replaced-here = go (eqb t t) (eqb_refl t)
-    where
-      go : (b : Bool) → T b → cond b a (f t) ≡ a
-      go true h = refl
-      go false h = absurd h
+  replaced-here = cond-true (eqb t t) a (f t) (eq-eqb t t refl)
 
   pub replaced-other : (u : ℕ) → u ≢ t → replaced u ≡ f u
   unfolding replaced
-  replaced-other u ne = go (eqb u t) (λ h. ne (eqb→eq u t h))
-    where
-      go : (b : Bool) → ¬ (T b) → cond b a (f u) ≡ f u
-      go true h = absurd (h tt)
-      go false h = refl
+  replaced-other u ne = cond-false (eqb u t) a (f u) (ne_eqb u t ne)
 
-module _ {Level Message Mailbox : Type 0} (below : Level → Level → Bool) (P : Program Level Message) (F : Frame P) (K : MailboxKind Message Mailbox) (w : Machine Message Mailbox) (t : ℕ) (turn : Turn below P K w t) where
-  abbrev stepped : Op Message → Message → Thread Message
+-- What a granted move makes of its thread and of the thread that it starts, and that a machine with these threads is after it.
+module _ {Level Message Mailbox : Type 0} (P : Program Level Message) (K : MailboxKind Message Mailbox) (w : Machine Message Mailbox) (t : ℕ) where
+  -- after an operation, m being the last word then
+  abbrev pub stepped : Op Message → Message → Thread Message
   stepped o m = record { state = running; place = suc (w.thread t).place; account = paid P o (w.thread t).account; locks = locked o (w.thread t).locks; last = m }
 
-  abbrev stepped-table : Op Message → Message → ℕ → Thread Message
-  stepped-table o m = replaced w.thread t (stepped o m)
+  abbrev pub woken : ℕ → Thread Message
+  woken v = record { state = running; place = (w.thread v).place; account = P.opening v; locks = (w.thread v).locks; last = (w.thread v).last }
+
+  abbrev pub closed : Thread Message
+  closed = record { state = home; place = suc (length (P.ops t)); account = (w.thread t).account; locks = (w.thread t).locks; last = (w.thread t).last }
+
+  module _ (w' : Machine Message Mailbox) where
+    pub wakes : (v : ℕ) → w'.thread v ≡ woken v → Wakes P K w t w' v
+    wakes v e = record {
+      state = ap (λ (h : Thread Message). h.state) e;
+      place = ap (λ (h : Thread Message). h.place) e;
+      account = λ x. ap (λ (h : Thread Message). h.account x) e;
+      locks = λ x. ap (λ (h : Thread Message). h.locks x) e;
+      last = ap (λ (h : Thread Message). h.last) e;
+    }
+
+    pub performed : (o : Op Message) (m : Message) → w'.thread t ≡ stepped o m → Delivered P K w t w' o → Woken P K w t w' o →
+        ((u : ℕ) → u ≢ t → Apart P K w t w' o u → w'.thread u ≡ w.thread u) → w'.halted ≡ w.halted → Performed P K w t w' o
+    performed o m e delivered started others going = record {
+      state = ap (λ (h : Thread Message). h.state) e;
+      place = ap (λ (h : Thread Message). h.place) e;
+      account = λ x. ap (λ (h : Thread Message). h.account x) e;
+      locks = λ x. ap (λ (h : Thread Message). h.locks x) e;
+      delivered = delivered;
+      woken = started;
+      others = others;
+      going = going;
+    }
+
+    pub shut : w'.thread t ≡ closed → ((u : ℕ) → u ≢ t → w'.thread u ≡ w.thread u) → w'.mailbox ≡ w.mailbox → w'.halted ≡ w.halted → Closed P K w t w'
+    shut e others mailbox going = record {
+      state = ap (λ (h : Thread Message). h.state) e;
+      place = ap (λ (h : Thread Message). h.place) e;
+      account = λ x. ap (λ (h : Thread Message). h.account x) e;
+      locks = λ x. ap (λ (h : Thread Message). h.locks x) e;
+      last = ap (λ (h : Thread Message). h.last) e;
+      others = others;
+      mailbox = mailbox;
+      going = going;
+    }
+
+module _ {Level Message Mailbox : Type 0} (below : Level → Level → Bool) (P : Program Level Message) (F : Frame P) (K : MailboxKind Message Mailbox) (w : Machine Message Mailbox) (t : ℕ) (turn : Turn below P K w t) where
+  abbrev word : Message
+  word = (w.thread t).last
+
+  abbrev own : Op Message → Message → Thread Message
+  own o m = stepped P K w t o m
+
+  abbrev moved : Op Message → Message → Mailbox → Machine Message Mailbox
+  moved o m b = record { thread = replaced w.thread t (own o m); halted = w.halted; mailbox = b }
 
   -- an operation that starts no thread
-  quiet : (o : Op Message) (m : Message) (b : Mailbox) → let w' : Machine Message Mailbox = record { thread = stepped-table o m; halted = w.halted; mailbox = b } in
-      Delivered P K w t w' o → Woken P K w t w' o → Performed P K w t w' o
-  quiet o m b delivered woken =
-      let e : stepped-table o m t ≡ stepped o m = replaced-here w.thread t (stepped o m) in
-      record {
-        state = ap (λ (h : Thread Message). h.state) e;
-        place = ap (λ (h : Thread Message). h.place) e;
-        account = λ x. ap (λ (h : Thread Message). h.account x) e;
-        locks = λ x. ap (λ (h : Thread Message). h.locks x) e;
-        delivered = delivered;
-        woken = woken;
-        others = λ u ne _. replaced-other w.thread t (stepped o m) u ne;
-        going = refl;
-      }
+  quiet : (o : Op Message) (m : Message) (b : Mailbox) → Delivered P K w t (moved o m b) o → Woken P K w t (moved o m b) o → (w' : Machine Message Mailbox) × Performed P K w t w' o
+  quiet o m b delivered started =
+      (moved o m b, performed P K w t (moved o m b) o m (replaced-here w.thread t (own o m)) delivered started (λ u ne _. replaced-other w.thread t (own o m) u ne) refl)
 
-  last-is : (o : Op Message) (m : Message) → (stepped-table o m t).last ≡ m
-  last-is o m = ap (λ (h : Thread Message). h.last) (replaced-here w.thread t (stepped o m))
+  last-is : (o : Op Message) (m : Message) → (replaced w.thread t (own o m) t).last ≡ m
+  last-is o m = ap (λ (h : Thread Message). h.last) (replaced-here w.thread t (own o m))
 
   perform : Serves K → (o : Op Message) → Next below P K w t o → Ready below P K w t o → (w' : Machine Message Mailbox) × Performed P K w t w' o
-  perform serves (send c m) next ready =
-      let r = serves.puts w.mailbox c m ready in
-      (record { thread = stepped-table (send c m) (w.thread t).last; halted = w.halted; mailbox = r.0 }, quiet (send c m) (w.thread t).last r.0 (r.1, last-is (send c m) (w.thread t).last) tt)
+  perform serves (send c m) next ready = let r = serves.puts w.mailbox c m ready in quiet (send c m) word r.0 (r.1, last-is (send c m) word) tt
   perform serves (receive c) next ready =
-      let r = serves.takes w.mailbox c ready in (
-        record { thread = stepped-table (receive c) r.0; halted = w.halted; mailbox = r.1 },
-        quiet (receive c) r.0 r.1 (subst (λ (m : Message). Take K w.mailbox c m r.1) (sym (last-is (receive c) r.0)) r.2, tt) tt,
-      )
-  perform serves (acquire l) next ready = (record { thread = stepped-table (acquire l) (w.thread t).last; halted = w.halted; mailbox = w.mailbox }, quiet (acquire l) (w.thread t).last w.mailbox (refl, last-is (acquire l) (w.thread t).last) tt)
-  perform serves (release l) next ready = (record { thread = stepped-table (release l) (w.thread t).last; halted = w.halted; mailbox = w.mailbox }, quiet (release l) (w.thread t).last w.mailbox (refl, last-is (release l) (w.thread t).last) tt)
+      let r = serves.takes w.mailbox c ready in
+      quiet (receive c) r.0 r.1 (subst (λ (m : Message). Take K w.mailbox c m r.1) (sym (last-is (receive c) r.0)) r.2, tt) tt
+  perform serves (acquire l) next ready = quiet (acquire l) word w.mailbox (refl, last-is (acquire l) word) tt
+  perform serves (release l) next ready = quiet (release l) word w.mailbox (refl, last-is (release l) word) tt
   perform serves (start v) next ready =
       let f = F.once t (w.thread t).place v turn.exists next in
       let g = F.woken v f.0 f.1 in
       let apart : t ≢ v = omega (arith, g.0, f.2) in
-      let m = (w.thread t).last in
-      let awake : Thread Message = record { state = running; place = (w.thread v).place; account = P.opening v; locks = (w.thread v).locks; last = (w.thread v).last } in
-      let table : ℕ → Thread Message = replaced (stepped-table (start v) m) v awake in
-      let own : table t ≡ stepped (start v) m = replaced-other (stepped-table (start v) m) v awake t apart ∙ replaced-here w.thread t (stepped (start v) m) in
-      let woken : table v ≡ awake = replaced-here (stepped-table (start v) m) v awake in (
-        record { thread = table; halted = w.halted; mailbox = w.mailbox },
-        record {
-          state = ap (λ (h : Thread Message). h.state) own;
-          place = ap (λ (h : Thread Message). h.place) own;
-          account = λ x. ap (λ (h : Thread Message). h.account x) own;
-          locks = λ x. ap (λ (h : Thread Message). h.locks x) own;
-          delivered = (refl, ap (λ (h : Thread Message). h.last) own);
-          woken = record {
-            state = ap (λ (h : Thread Message). h.state) woken;
-            place = ap (λ (h : Thread Message). h.place) woken;
-            account = λ x. ap (λ (h : Thread Message). h.account x) woken;
-            locks = λ x. ap (λ (h : Thread Message). h.locks x) woken;
-            last = ap (λ (h : Thread Message). h.last) woken;
-          };
-          others = λ u ne nv. replaced-other (stepped-table (start v) m) v awake u nv ∙ replaced-other w.thread t (stepped (start v) m) u ne;
-          going = refl;
-        },
+      let table : ℕ → Thread Message = replaced w.thread t (own (start v) word) in
+      let w' : Machine Message Mailbox = record { thread = replaced table v (woken P K w t v); halted = w.halted; mailbox = w.mailbox } in
+      let e : w'.thread t ≡ own (start v) word = replaced-other table v (woken P K w t v) t apart ∙ replaced-here w.thread t (own (start v) word) in (
+        w',
+        performed P K w t w' (start v) word e (refl, ap (λ (h : Thread Message). h.last) e) (wakes P K w t w' v (replaced-here table v (woken P K w t v)))
+            (λ u ne nv. replaced-other table v (woken P K w t v) u nv ∙ replaced-other w.thread t (own (start v) word) u ne) refl,
       )
-
-  abbrev closed : Thread Message
-  closed = record { state = home; place = suc (length (P.ops t)); account = (w.thread t).account; locks = (w.thread t).locks; last = (w.thread t).last }
 
   close : (w' : Machine Message Mailbox) × Closed P K w t w'
   close =
-      let e : replaced w.thread t closed t ≡ closed = replaced-here w.thread t closed in (
-        record { thread = replaced w.thread t closed; halted = w.halted; mailbox = w.mailbox },
-        record {
-          state = ap (λ (h : Thread Message). h.state) e;
-          place = ap (λ (h : Thread Message). h.place) e;
-          account = λ x. ap (λ (h : Thread Message). h.account x) e;
-          locks = λ x. ap (λ (h : Thread Message). h.locks x) e;
-          last = ap (λ (h : Thread Message). h.last) e;
-          others = λ u ne. replaced-other w.thread t closed u ne;
-          mailbox = refl;
-          going = refl;
-        },
-      )
+      let w' : Machine Message Mailbox = record { thread = replaced w.thread t (closed P K w t); halted = w.halted; mailbox = w.mailbox } in
+      (w', shut P K w t w' (replaced-here w.thread t (closed P K w t)) (λ u ne. replaced-other w.thread t (closed P K w t) u ne) refl refl)
 
   pub grant_made : Serves K → Grantable below P K w t → (w' : Machine Message Mailbox) × Grant below P K w t w'
   grant_made serves (grants-op o next legal ready) = let r = perform serves o next ready in (r.0, operates turn o next legal ready r.1)

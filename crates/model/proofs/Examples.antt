@@ -1,16 +1,16 @@
 -- The two example plans: they are sound, and the first runs home. Assumes nothing.
-use Rattle.std.proofs.Common.{◌≡◌, ℕ, zero, suc, ◌<◌, false, ltb, ◌≢◌, List, [], ◌∷◌, ◌++◌, length, sym, refl, ap, ◌∙◌, subst, arith}
+use Rattle.std.proofs.Common.{◌≡◌, ℕ, zero, suc, ◌<◌, ◌≤◌, false, ltb, ◌≢◌, List, [], ◌∷◌, ◌++◌, length, pos, sym, refl, ap, ◌∙◌, subst, arith, rules}
 use Rattle.model.specs.Example.{bodies, hoist, Lists, endless, went, HoistRuns, deep_bodies, deep, DeepThreads}
 use Rattle.model.specs.History.{Fresh, Opening, no_attempt, attempted}
 use Rattle.model.specs.Machine.{State, asleep, running, home, Thread, Machine, granted, Move}
 use Rattle.model.specs.Mailbox.{Take}
-use Rattle.model.specs.Program.{Op, send, receive, acquire, release, start, Account, Program, operation, step_at, same, Within}
+use Rattle.model.specs.Program.{Op, send, receive, acquire, release, start, Account, Program, operation, step_at, same, Within, mailbox_numbers}
 use Rattle.model.specs.Promises.{Serves}
-use Rattle.model.specs.RuleExamples.{nothing, WalkExamples, MoveExamples, OpeningExamples, Examples}
+use Rattle.model.specs.RuleExamples.{nothing}
 use Rattle.model.specs.Rules.{paid, Cleared}
-use Rattle.model.specs.Threads.{by_thread, Sound}
+use Rattle.model.specs.Threads.{main, by_thread, Sound}
 use Rattle.model.proofs.Breaches.{step_op}
-use Rattle.model.proofs.Completion.{replaced, replaced-here, replaced-other}
+use Rattle.model.proofs.Completion.{replaced, replaced-here, replaced-other, wakes, performed, shut}
 use Rattle.model.proofs.Tools.{At}
 
 -- What holds of each operation of a list.
@@ -38,29 +38,31 @@ fits-within B i (acquire l) f = f
 fits-within B i (release l) f = f
 fits-within B i (start k) f = tt
 
-module _ (B : Program ℕ ℕ) (fits : (i p : ℕ) (o : Op ℕ) → i < B.threads → At (B.ops i) p o → Fits B i o) where
-  falls : (i p k : ℕ) → i < B.threads → step_at (B.ops i) p ≡ operation (start k) → k < i
-  falls i p k h e = fits i p (start k) h (step_op (B.ops i) p (start k) e)
-
-  inside : (i p : ℕ) (o : Op ℕ) → i < B.threads → step_at (B.ops i) p ≡ operation o → Within B o
-  inside i p o h e = fits-within B i o (fits i p o h (step_op (B.ops i) p o e))
-
-pub deep-sound : Sound deep
-deep-sound = record {
-  has_task = omega arith;
-  falls = falls deep fits;
+-- A plan whose operations fit is sound, if it has a task, each task but the last is named, and the last opens with nothing.
+sound : (B : Program ℕ ℕ) → 0 < B.threads → ((i : ℕ) → i < B.threads → Each (Fits B i) (B.ops i)) →
+    ((k : ℕ) → suc k < B.threads → (i : ℕ) × (p : ℕ) × (i < B.threads) × (step_at (B.ops i) p ≡ operation (start k))) →
+    ((x : ℕ) → B.opening (main B) x ≡ pos 0) → B.objects ≤ mailbox_numbers → Sound B
+sound B some fits named opening few = record {
+  has_task = some;
+  falls = λ i p k h e. fit i p (start k) h e;
   named = named;
-  main_opening = λ x. refl;
-  within = inside deep fits;
-  few_objects = omega arith;
+  main_opening = opening;
+  within = λ i p o h e. fits-within B i o (fit i p o h e);
+  few_objects = few;
 }
   where
-    fits : (i p : ℕ) (o : Op ℕ) → i < 4 → At (deep_bodies i) p o → Fits deep i o
-    fits zero p o h a = each_at (Fits deep 0) (deep_bodies 0) ((omega arith, tt), ((omega arith, tt), tt)) p o a
-    fits (suc zero) p o h a = each_at (Fits deep 1) (deep_bodies 1) (omega arith, ((omega arith, tt), ((omega arith, tt), (omega arith, tt)))) p o a
-    fits (suc (suc zero)) p o h a = each_at (Fits deep 2) (deep_bodies 2) (omega arith, (omega arith, tt)) p o a
-    fits (suc (suc (suc zero))) p o h a = each_at (Fits deep 3) (deep_bodies 3) (omega arith, ((omega arith, tt), (omega arith, ((omega arith, tt), (omega arith, tt))))) p o a
-    fits (suc (suc (suc (suc i)))) p o h a = absurd (omega arith)
+    fit : (i p : ℕ) (o : Op ℕ) → i < B.threads → step_at (B.ops i) p ≡ operation o → Fits B i o
+    fit i p o h e = each_at (Fits B i) (B.ops i) (fits i h) p o (step_op (B.ops i) p o e)
+
+pub deep-sound : Sound deep
+deep-sound = sound deep (omega arith) fits named (λ x. refl) (omega arith)
+  where
+    fits : (i : ℕ) → i < 4 → Each (Fits deep i) (deep_bodies i)
+    fits zero h = search rules
+    fits (suc zero) h = search rules
+    fits (suc (suc zero)) h = search rules
+    fits (suc (suc (suc zero))) h = search rules
+    fits (suc (suc (suc (suc i)))) h = absurd (omega arith)
 
     named : (k : ℕ) → suc k < 4 → (i : ℕ) × (p : ℕ) × (i < 4) × (step_at (deep_bodies i) p ≡ operation (start k))
     named zero h = (1, 0, omega arith, refl)
@@ -69,19 +71,12 @@ deep-sound = record {
     named (suc (suc (suc k))) h = absurd (omega arith)
 
 pub hoist-sound : Sound hoist
-hoist-sound = record {
-  has_task = omega arith;
-  falls = falls hoist fits;
-  named = named;
-  main_opening = λ x. refl;
-  within = inside hoist fits;
-  few_objects = omega arith;
-}
+hoist-sound = sound hoist (omega arith) fits named (λ x. refl) (omega arith)
   where
-    fits : (i p : ℕ) (o : Op ℕ) → i < 2 → At (bodies i) p o → Fits hoist i o
-    fits zero p o h a = each_at (Fits hoist 0) (bodies 0) ((omega arith, tt), ((omega arith, tt), tt)) p o a
-    fits (suc zero) p o h a = each_at (Fits hoist 1) (bodies 1) (omega arith, ((omega arith, tt), ((omega arith, tt), tt))) p o a
-    fits (suc (suc i)) p o h a = absurd (omega arith)
+    fits : (i : ℕ) → i < 2 → Each (Fits hoist i) (bodies i)
+    fits zero h = search rules
+    fits (suc zero) h = search rules
+    fits (suc (suc i)) h = absurd (omega arith)
 
     named : (k : ℕ) → suc k < 2 → (i : ℕ) × (p : ℕ) × (i < 2) × (step_at (bodies i) p ≡ operation (start k))
     named zero h = (1, 0, omega arith, refl)
@@ -101,48 +96,28 @@ hoist-cleared (suc zero) (suc (suc (suc zero))) h l = refl
 hoist-cleared (suc zero) (suc (suc (suc (suc p)))) h l = absurd (omega arith)
 hoist-cleared (suc (suc i)) p h l = absurd (omega arith)
 
--- Two threads, and two channels.
-abbrev crew : Thread ℕ → Thread ℕ → ℕ → Thread ℕ
-crew a b zero = a
-crew a b (suc zero) = b
-crew a b (suc (suc t)) = record { state = asleep; place = 0; account = nothing; locks = λ x. false; last = 0 }
+-- A table of two, with d past them; where one of them changes, the rest stays.
+abbrev two : {A : Type 0} → A → A → A → ℕ → A
+two d a b zero = a
+two d a b (suc zero) = b
+two d a b (suc (suc n)) = d
 
+not_0 : {A : Type 0} (d a a' b : A) (n : ℕ) → n ≢ 0 → two d a' b n ≡ two d a b n
+not_0 d a a' b zero ne = absurd (ne refl)
+not_0 d a a' b (suc zero) ne = refl
+not_0 d a a' b (suc (suc n)) ne = refl
+
+not_1 : {A : Type 0} (d a b b' : A) (n : ℕ) → n ≢ 1 → two d a b' n ≡ two d a b n
+not_1 d a b b' zero ne = refl
+not_1 d a b b' (suc zero) ne = absurd (ne refl)
+not_1 d a b b' (suc (suc n)) ne = refl
+
+-- Two threads, and two channels.
 abbrev one : State → ℕ → Account → ℕ → Thread ℕ
 one s p a last = record { state = s; place = p; account = a; locks = λ x. false; last = last }
 
-abbrev both : List ℕ → List ℕ → Lists
-both xs ys zero = xs
-both xs ys (suc zero) = ys
-both xs ys (suc (suc c)) = []
-
-abbrev stage : Thread ℕ → Thread ℕ → Lists → Machine ℕ Lists
-stage a b l = record { thread = crew a b; halted = false; mailbox = l }
-
--- Threads and lists that a move does not touch.
-rest_0 : (a a' b : Thread ℕ) (u : ℕ) → u ≢ 0 → crew a' b u ≡ crew a b u
-rest_0 a a' b zero ne = absurd (ne refl)
-rest_0 a a' b (suc zero) ne = refl
-rest_0 a a' b (suc (suc u)) ne = refl
-
-rest_1 : (a b b' : Thread ℕ) (u : ℕ) → u ≢ 1 → crew a b' u ≡ crew a b u
-rest_1 a b b' zero ne = refl
-rest_1 a b b' (suc zero) ne = absurd (ne refl)
-rest_1 a b b' (suc (suc u)) ne = refl
-
-rest_both : (a a' b b' : Thread ℕ) (u : ℕ) → u ≢ 0 → u ≢ 1 → crew a' b' u ≡ crew a b u
-rest_both a a' b b' zero ne nf = absurd (ne refl)
-rest_both a a' b b' (suc zero) ne nf = absurd (nf refl)
-rest_both a a' b b' (suc (suc u)) ne nf = refl
-
-lists_0 : (xs xs' ys : List ℕ) (c : ℕ) → c ≢ 0 → both xs' ys c ≡ both xs ys c
-lists_0 xs xs' ys zero ne = absurd (ne refl)
-lists_0 xs xs' ys (suc zero) ne = refl
-lists_0 xs xs' ys (suc (suc c)) ne = refl
-
-lists_1 : (xs ys ys' : List ℕ) (c : ℕ) → c ≢ 1 → both xs ys' c ≡ both xs ys c
-lists_1 xs ys ys' zero ne = refl
-lists_1 xs ys ys' (suc zero) ne = absurd (ne refl)
-lists_1 xs ys ys' (suc (suc c)) ne = refl
+abbrev stage : Thread ℕ → Thread ℕ → List ℕ → List ℕ → Machine ℕ Lists
+stage a b xs ys = record { thread = two (one asleep 0 nothing 0) a b; halted = false; mailbox = two [] xs ys }
 
 abbrev P : Program ℕ ℕ
 P = by_thread hoist
@@ -171,153 +146,67 @@ b2 = paid P (send 1 0) b1
 
 -- The machine after each of the seven moves.
 abbrev m0 : Machine ℕ Lists
-m0 = stage (one running 0 a0 0) (one asleep 0 nothing 0) (both [] [])
+m0 = stage (one running 0 a0 0) (one asleep 0 nothing 0) [] []
 
 abbrev m1 : Machine ℕ Lists
-m1 = stage (one running 1 a1 0) (one running 0 b0 0) (both [] [])
+m1 = stage (one running 1 a1 0) (one running 0 b0 0) [] []
 
 abbrev m2 : Machine ℕ Lists
-m2 = stage (one running 2 a2 0) (one running 0 b0 0) (both (7 ∷ []) [])
+m2 = stage (one running 2 a2 0) (one running 0 b0 0) (7 ∷ []) []
 
 abbrev m3 : Machine ℕ Lists
-m3 = stage (one running 2 a2 0) (one running 1 b1 7) (both [] [])
+m3 = stage (one running 2 a2 0) (one running 1 b1 7) [] []
 
 abbrev m4 : Machine ℕ Lists
-m4 = stage (one running 2 a2 0) (one running 2 b2 7) (both [] (0 ∷ []))
+m4 = stage (one running 2 a2 0) (one running 2 b2 7) [] (0 ∷ [])
 
 abbrev m5 : Machine ℕ Lists
-m5 = stage (one running 3 a3 0) (one running 2 b2 7) (both [] [])
+m5 = stage (one running 3 a3 0) (one running 2 b2 7) [] []
 
 abbrev m6 : Machine ℕ Lists
-m6 = stage (one running 3 a3 0) (one home 3 b2 7) (both [] [])
+m6 = stage (one running 3 a3 0) (one home 3 b2 7) [] []
 
 abbrev m7 : Machine ℕ Lists
-m7 = stage (one home 4 a3 0) (one home 3 b2 7) (both [] [])
+m7 = stage (one home 4 a3 0) (one home 3 b2 7) [] []
 
 move_1 : Move ltb P endless m0 0 (granted 10) m1
 unfolding same
-move_1 = record {
-  exact = refl;
-  leaves = record {
-    state = refl;
-    place = refl;
-    account = λ x. refl;
-    locks = λ x. refl;
-    delivered = (refl, refl);
-    woken = record { state = refl; place = refl; account = λ x. refl; locks = λ x. refl; last = refl };
-    others = λ u ne nf. rest_both _ _ _ _ u ne nf;
-    going = refl;
-  };
-}
+move_1 = record { exact = refl; leaves = performed P endless m0 0 m1 (start 1) 0 refl (refl, refl) (wakes P endless m0 0 m1 1 refl) (λ u ne nv. not_1 _ _ _ _ u nv ∙ not_0 _ _ _ _ u ne) refl }
 
 move_2 : Move ltb P endless m1 0 (granted 11) m2
 unfolding same
-move_2 = record {
-  exact = refl;
-  leaves = record {
-    state = refl;
-    place = refl;
-    account = λ x. refl;
-    locks = λ x. refl;
-    delivered = (record { joined = refl; others = lists_0 [] (7 ∷ []) []; roomy = λ d. omega arith }, refl);
-    woken = tt;
-    others = λ u ne _. rest_0 _ _ _ u ne;
-    going = refl;
-  };
-}
+move_2 = record { exact = refl; leaves = performed P endless m1 0 m2 (send 0 7) 0 refl (record { joined = refl; others = not_0 _ _ _ _; roomy = λ d. omega arith }, refl) tt (λ u ne _. not_0 _ _ _ _ u ne) refl }
 
 move_3 : Move ltb P endless m2 1 (granted 7) m3
 unfolding same
-move_3 = record {
-  exact = refl;
-  leaves = record {
-    state = refl;
-    place = refl;
-    account = λ x. refl;
-    locks = λ x. refl;
-    delivered = (record { removed = refl; others = lists_0 (7 ∷ []) [] []; roomy = λ d. omega arith }, tt);
-    woken = tt;
-    others = λ u ne _. rest_1 _ _ _ u ne;
-    going = refl;
-  };
-}
+move_3 = record { exact = refl; leaves = performed P endless m2 1 m3 (receive 0) 7 refl (record { removed = refl; others = not_0 _ _ _ _; roomy = λ d. omega arith }, tt) tt (λ u ne _. not_1 _ _ _ _ u ne) refl }
 
 move_4 : Move ltb P endless m3 1 (granted 8) m4
 unfolding same
-move_4 = record {
-  exact = refl;
-  leaves = record {
-    state = refl;
-    place = refl;
-    account = λ x. refl;
-    locks = λ x. refl;
-    delivered = (record { joined = refl; others = lists_1 [] [] (0 ∷ []); roomy = λ d. omega arith }, refl);
-    woken = tt;
-    others = λ u ne _. rest_1 _ _ _ u ne;
-    going = refl;
-  };
-}
+move_4 = record { exact = refl; leaves = performed P endless m3 1 m4 (send 1 0) 7 refl (record { joined = refl; others = not_1 _ _ _ _; roomy = λ d. omega arith }, refl) tt (λ u ne _. not_1 _ _ _ _ u ne) refl }
 
 move_5 : Move ltb P endless m4 0 (granted 12) m5
 unfolding same
-move_5 = record {
-  exact = refl;
-  leaves = record {
-    state = refl;
-    place = refl;
-    account = λ x. refl;
-    locks = λ x. refl;
-    delivered = (record { removed = refl; others = lists_1 [] (0 ∷ []) []; roomy = λ d. omega arith }, tt);
-    woken = tt;
-    others = λ u ne _. rest_0 _ _ _ u ne;
-    going = refl;
-  };
-}
+move_5 = record { exact = refl; leaves = performed P endless m4 0 m5 (receive 1) 0 refl (record { removed = refl; others = not_1 _ _ _ _; roomy = λ d. omega arith }, tt) tt (λ u ne _. not_0 _ _ _ _ u ne) refl }
 
 move_6 : Move ltb P endless m5 1 (granted 4) m6
 unfolding same
-move_6 = record {
-  exact = refl;
-  leaves = record {
-    state = refl;
-    place = refl;
-    account = λ x. refl;
-    locks = λ x. refl;
-    last = refl;
-    others = λ u ne. rest_1 _ _ _ u ne;
-    mailbox = refl;
-    going = refl;
-  };
-}
+move_6 = record { exact = refl; leaves = shut P endless m5 1 m6 refl (not_1 _ _ _ _) refl refl }
 
 move_7 : Move ltb P endless m6 0 (granted 9) m7
 unfolding same
-move_7 = record {
-  exact = refl;
-  leaves = record {
-    state = refl;
-    place = refl;
-    account = λ x. refl;
-    locks = λ x. refl;
-    last = refl;
-    others = λ u ne. rest_0 _ _ _ u ne;
-    mailbox = refl;
-    going = refl;
-  };
-}
+move_7 = record { exact = refl; leaves = shut P endless m6 0 m7 refl (not_0 _ _ _ _) refl refl }
 
-opening-hoist : Opening P endless 0 (both [] []) m0
-opening-hoist = record {
-  main = record { state = refl; place = refl; account = λ x. refl; locks = λ x. refl; last = refl };
-  rest = rest;
-  halted = refl;
-  mailbox = refl;
-}
+opening-hoist : Opening P endless 0 (two [] [] []) m0
+opening-hoist = record { main = fresh running; rest = rest; halted = refl; mailbox = refl }
   where
-    rest : (t : ℕ) → 0 < t → t < 2 → Fresh 0 asleep (crew (one running 0 a0 0) (one asleep 0 nothing 0) t)
+    fresh : (s : State) → Fresh 0 s (one s 0 nothing 0)
+    fresh s = record { state = refl; place = refl; account = λ x. refl; locks = λ x. refl; last = refl }
+
+    rest : (t : ℕ) → 0 < t → t < 2 → Fresh 0 asleep (m0.thread t)
     rest zero z h = absurd (omega arith)
-    rest (suc zero) z h = record { state = refl; place = refl; account = λ x. refl; locks = λ x. refl; last = refl }
-    rest (suc (suc t)) z h = absurd (omega arith)
+    rest (suc zero) z h = fresh asleep
+    rest (suc (suc t)) z h = fresh asleep
 
 all_home : (t : ℕ) → t < 2 → (m7.thread t).state ≡ home
 all_home zero h = refl
@@ -359,7 +248,7 @@ hoist-runs = record {
   machine = m7;
   history = record {
     blank = 0;
-    before = both [] [];
+    before = two [] [] [];
     opened = m0;
     no_fault = refl;
     opening = opening-hoist;
@@ -373,45 +262,3 @@ hoist-runs = record {
 
 pub deep-threads : DeepThreads
 deep-threads = record { sound = deep-sound; tasks = refl; ops = refl; thread_count = refl; move_count = refl; send_count = refl }
-
-walk_examples : WalkExamples
-unfolding same
-walk_examples = record {
-  no_credit = refl;
-  credit_gone = refl;
-  credit_made = refl;
-  receive_barred = refl;
-  no_credit_first = refl;
-  held_already = refl;
-  incomparable = refl;
-  comparable = refl;
-  not_held = refl;
-  owed = refl;
-  held = refl;
-  owed_first = refl;
-  settled = refl;
-}
-
-move-examples : MoveExamples
-move-examples = record {
-  no_such_thread = refl;
-  no_such_thread_first = refl;
-  run_halted = refl;
-  is_asleep = refl;
-  is_home = refl;
-  starts = refl;
-  sends = refl;
-  no_room = refl;
-  receives = refl;
-  waits = refl;
-  breaches = refl;
-  closes = refl;
-  lock_free = refl;
-  lock_held = refl;
-}
-
-opening-examples : OpeningExamples
-opening-examples = record { opens = refl; waiting_elsewhere = refl; no_room = refl; waiting_first = refl }
-
-pub examples : Examples
-examples = record { walks = walk_examples; moves = move-examples; openings = opening-examples }

@@ -1,13 +1,13 @@
 -- No two threads hold one lock. Assumes nothing.
-use Rattle.std.proofs.Common.{◌≡◌, ℕ, zero, suc, ◌<◌, Bool, true, false, cond, T, eqb, ◌⊎◌, List, sym, refl, ap, ◌∙◌, subst, inl, inr, arith, eqb→eq}
+use Rattle.std.proofs.Common.{◌≡◌, ℕ, zero, suc, ◌<◌, Bool, true, false, T, eqb, ◌⊎◌, List, sym, ap, ◌∙◌, subst, inl, inr, arith, eqb-true}
 use native.Mathlib.Decide.{ℕ_discrete}
+use Rattle.std.proofs.lemmas.Bool.{cond_both}
 use Rattle.model.specs.History.{Opening, Entry, Attempts, no_attempt, attempted, History}
 use Rattle.model.specs.Machine.{Thread, Machine, Answer, granted, refused, breached, Performed, Closed}
 use Rattle.model.specs.Mailbox.{MailboxKind}
 use Rattle.model.specs.Program.{Op, send, receive, acquire, release, start, Locks, Program}
 use Rattle.model.specs.Rules.{locked}
 use Rattle.model.proofs.Moves.{seen}
-use Rattle.model.proofs.Searches.{true_is}
 use Rattle.model.proofs.Steps.{other, wakes}
 use Rattle.model.proofs.Tools.{Frame, Ready, operates, closes, Seen}
 
@@ -20,16 +20,8 @@ module _ {Level Message Mailbox : Type 0} (below : Level → Level → Bool) (P 
   own_held (send c m) h x k = inl k
   own_held (receive c) h x k = inl k
   own_held (start u) h x k = inl k
-  own_held (acquire l) h x k = go (eqb x l) refl k
-    where
-      go : (b : Bool) → eqb x l ≡ b → T (cond b true (h x)) → T (h x) ⊎ (◌≡◌ {A = Op Message} (acquire l) (acquire x))
-      go true e k = inr (ap acquire (sym (eqb→eq x l (true_is _ e))))
-      go false e k = inl k
-  own_held (release l) h x k = go (eqb x l) k
-    where
-      go : (b : Bool) → T (cond b false (h x)) → T (h x) ⊎ (◌≡◌ {A = Op Message} (release l) (acquire x))
-      go true k = absurd k
-      go false k = inl k
+  own_held (acquire l) h x k = cond_both (eqb x l) true (h x) (λ b. T b → T (h x) ⊎ (◌≡◌ {A = Op Message} (acquire l) (acquire x))) (λ e k. inr (ap acquire (sym (eqb-true x l e)))) (λ e k. inl k) k
+  own_held (release l) h x k = cond_both (eqb x l) false (h x) (λ b. T b → T (h x) ⊎ (◌≡◌ {A = Op Message} (release l) (acquire x))) (λ e k. absurd k) (λ e k. inl k) k
 
   module _ (w w' : Machine Message Mailbox) (t : ℕ) (o : Op Message) (ready : Ready below P K w t o) (d : Performed P K w t w' o) where
     held-before : (u x : ℕ) → T ((w'.thread u).locks x) → T ((w.thread u).locks x) ⊎ ((u ≡ t) × (o ≡ acquire x))

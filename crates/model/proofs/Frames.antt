@@ -1,13 +1,16 @@
 -- The starts of a program as a function from threads, and an opening without a fault in words. Assumes nothing.
-use Rattle.std.proofs.Common.{◌≡◌, ℕ, ◌<◌, ◌≤◌, Bool, true, false, cond, not, ◌&&◌, T, eqb, ltb, List, [], ◌∷◌, length, Some, None, Option, sym, refl, ap, ◌∙◌, subst, arith, eqb→eq, ltb→lt, lt→ltb}
-use native.Mathlib.Decide.{dec_lt}
+use Rattle.std.proofs.Common.{◌≡◌, ℕ, ◌<◌, ◌≤◌, Bool, true, false, cond, not, ◌&&◌, T, eqb, ltb, List, [], length, Some, None, Option, sym, refl, ap, ◌∙◌, subst, arith, ltb→lt, lt→ltb, ne_eqb}
+use native.Mathlib.Decide.{ℕ_discrete, dec_lt}
+use Rattle.std.proofs.lemmas.Float.{T_from_false}
+use Rattle.std.proofs.lemmas.List.{nil_from_length}
+use Rattle.std.proofs.lemmas.Option.{same_Some}
 use Rattle.model.specs.History.{not_empty, tight, opening_fault, Opening, OpeningFault}
 use Rattle.model.specs.Machine.{Machine, found}
 use Rattle.model.specs.Mailbox.{MailboxKind}
 use Rattle.model.specs.Program.{start, Program, sends, mailbox_numbers, Formed}
 use Rattle.model.specs.Rules.{first}
 use Rattle.model.proofs.Breaches.{step_op, op-step}
-use Rattle.model.proofs.Searches.{not_none, true_is, first-none, none_first, some_first}
+use Rattle.model.proofs.Searches.{not_none, first-none, none_first, some_first}
 use Rattle.model.proofs.Tools.{At, Frame, Opened}
 
 module _ {Level Message : Type 0} (P : Program Level Message) (F : Formed P) where
@@ -49,11 +52,7 @@ no_faults None (Some x) e = not_none e
 no_faults (Some x) q e = not_none e
 
 empty-is : (n : ℕ) → ¬ (T (not (eqb n 0))) → n ≡ 0
-empty-is n h = go (eqb n 0) refl h
-  where
-    go : (b : Bool) → eqb n 0 ≡ b → ¬ (T (not b)) → n ≡ 0
-    go true e h = eqb→eq n 0 (true_is _ e)
-    go false e h = absurd (h tt)
+empty-is n h = elim (ℕ_discrete n 0) [ yes e ↦ e | no ne ↦ absurd (h (T_from_false _ (ne_eqb n 0 ne))) ]
 
 roomy-is : (b : Bool) (r s : ℕ) → T b → ¬ (T (b && ltb r s)) → s ≤ r
 roomy-is true r s t h = let n : ¬ (r < s) = λ l. h (lt→ltb r s l) in omega arith
@@ -75,19 +74,11 @@ module _ {Level Message Mailbox : Type 0} (P : Program Level Message) (F : Frame
 
 -- An opening without a fault, and with 41, in words.
 module _ {Level Message Mailbox : Type 0} (P : Program Level Message) (K : MailboxKind Message Mailbox) (b : Mailbox) where
-  no_list : {A : Type 0} (xs : List A) → length xs ≡ 0 → xs ≡ []
-  no_list [] e = refl
-  no_list (x ∷ xs) e = absurd (omega arith)
-
   some_list : {A : Type 0} (xs : List A) → T (not (eqb (length xs) 0)) → ¬ (xs ≡ [])
   some_list xs h e = subst (λ ys. T (not (eqb (length ys) 0))) e h
 
   list_test : {A : Type 0} (xs : List A) → ¬ (xs ≡ []) → T (not (eqb (length xs) 0))
-  list_test xs n = go (eqb (length xs) 0) refl
-    where
-      go : (t : Bool) → eqb (length xs) 0 ≡ t → T (not t)
-      go true e = absurd (n (no_list xs (eqb→eq (length xs) 0 (true_is _ e))))
-      go false e = tt
+  list_test xs n = T_from_false _ (ne_eqb (length xs) 0 (λ e. n (nil_from_length xs e)))
 
   not_tight : (t : Bool) (r s : ℕ) → (T t → s ≤ r) → ¬ (T (t && ltb r s))
   not_tight true r s f h = let l = ltb→lt r s h in let k = f tt in omega arith
@@ -97,14 +88,10 @@ module _ {Level Message Mailbox : Type 0} (P : Program Level Message) (K : Mailb
   fault_of : Option ℕ → Option ℕ → Option ℕ
   fault_of r q = cond (found r) (Some 41) (cond (found q) (Some 42) None)
 
-  is_41 : Option ℕ → ℕ
-  is_41 None = 0
-  is_41 (Some n) = n
-
   found_41 : (r q : Option ℕ) → fault_of r q ≡ Some 41 → (x : ℕ) × (r ≡ Some x)
-  unfolding fault_of is_41
+  unfolding fault_of
   found_41 (Some x) q e = (x, refl)
-  found_41 None (Some y) e = absurd (let n : ◌≡◌ {A = ℕ} 42 41 = ap is_41 e in omega arith)
+  found_41 None (Some y) e = absurd (let n = same_Some 42 41 e in omega arith)
   found_41 None None e = not_none (sym e)
 
   some_41 : (r q : Option ℕ) → ¬ (r ≡ None) → fault_of r q ≡ Some 41
@@ -119,7 +106,7 @@ module _ {Level Message Mailbox : Type 0} (P : Program Level Message) (K : Mailb
       λ e.
           let q = no_faults _ _ e in
           record {
-            empty = λ c h. no_list (K.waiting b c) (empty-is _ (none_first (not_empty K b) 0 mailbox_numbers q.0 c (omega arith) (omega arith)));
+            empty = λ c h. nil_from_length (K.waiting b c) (empty-is _ (none_first (not_empty K b) 0 mailbox_numbers q.0 c (omega arith) (omega arith)));
             roomy = λ c h k. roomy-is (P.channel c) _ _ k (none_first (tight P K b) 0 P.objects q.1 c (omega arith) (omega arith));
           },
       λ n.

@@ -1,5 +1,5 @@
 -- The promises of a run, put together. Assumes nothing.
-use Rattle.std.proofs.Common.{◌≡◌, ℕ, suc, ◌-◌, ◌<◌, ◌≤◌, Bool, true, false, cond, ◌||◌, eqb, ltb, ◌↔◌, List, [], length, pos, sym, refl, ap, ◌∙◌, subst, ap₂, arith, eqb→eq, ltb→lt, lt→ltb}
+use Rattle.std.proofs.Common.{◌≡◌, ℕ, suc, ◌-◌, ◌<◌, ◌≤◌, Bool, true, false, cond, ◌||◌, eqb, ltb, ◌↔◌, List, [], length, pos, sym, refl, ap, ◌∙◌, subst, ap₂, arith, le-ltb, lt-ltb, ne_eqb}
 use mathlib.Core.Path.{fun_ext}
 use native.Mathlib.Decide.{ℕ_discrete}
 use Rattle.model.specs.History.{Entry, Attempts, no_attempt, attempted, History, grants, grants_to, is_breach, breached_in}
@@ -15,7 +15,6 @@ use Rattle.model.proofs.Frames.{frame, opened-is}
 use Rattle.model.proofs.Histories.{done, Inv, inv-opened, inv-attempts, inv}
 use Rattle.model.proofs.Moves.{granted_or_breached, seen}
 use Rattle.model.proofs.Progress.{progress}
-use Rattle.model.proofs.Searches.{is_true, is_false}
 use Rattle.model.proofs.States.{apart}
 use Rattle.model.proofs.Steps.{Walked, Stand, sleeps, runs, rests, walked}
 use Rattle.model.proofs.Sums.{same_refl, same-other, sum_same, sum_zero, sum-tight, sum_member}
@@ -134,8 +133,8 @@ module _ {Level Message : Type 0} (P : Program Level Message) (F : Frame P) (g :
   asleep_is : (t : ℕ) → 0 < t → t < P.threads → g (F.waker t) ≤ F.waking t → awake P g t ≡ false
   asleep_is t z h le =
       let none : passed P g (started t) ≡ 0 = sum_zero _ P.threads (λ s l. tally-none (started t) (P.ops s) (g s) (λ p o q a. start_weightless t s p o z h le l q a)) in
-      ap (λ (b : Bool). b || ltb 0 (passed P g (started t))) (is_false (eqb t 0) (λ e. let k = eqb→eq t 0 e in omega arith))
-      ∙ is_false (ltb 0 (passed P g (started t))) (λ e. let k = ltb→lt 0 (passed P g (started t)) e in omega arith)
+      ap (λ (b : Bool). b || ltb 0 (passed P g (started t))) (ne_eqb t 0 (omega arith))
+      ∙ le-ltb 0 (passed P g (started t)) (omega arith)
 
   awake-is : (t : ℕ) → t < P.threads → (0 < t → F.waking t < g (F.waker t)) → awake P g t ≡ true
   awake-is t h up = elim (ℕ_discrete t 0) [
@@ -146,8 +145,8 @@ module _ {Level Message : Type 0} (P : Program Level Message) (F : Frame P) (g :
         let here : 1 ≤ tally (started t) (P.ops (F.waker t)) (g (F.waker t)) =
         omega (arith, same_refl t, tally-some (started t) (P.ops (F.waker t)) (F.waking t) (g (F.waker t)) (start t) (up z) f.1) in
         let some : 0 < passed P g (started t) = omega (arith, here, sum_member (λ s. tally (started t) (P.ops s) (g s)) P.threads (F.waker t) (let l = f.0 in omega arith)) in
-        ap (λ (b : Bool). b || ltb 0 (passed P g (started t))) (is_false (eqb t 0) (λ e. ne (eqb→eq t 0 e)))
-        ∙ is_true (ltb 0 (passed P g (started t))) (lt→ltb 0 (passed P g (started t)) some))
+        ap (λ (b : Bool). b || ltb 0 (passed P g (started t))) (ne_eqb t 0 ne)
+        ∙ lt-ltb 0 (passed P g (started t)) some)
   ]
 
 module _ {Level Message Mailbox : Type 0} (below : Level → Level → Bool) (P : Program Level Message) (F : Frame P) (K : MailboxKind Message Mailbox) (w : Machine Message Mailbox) (log : List Entry) (i : Inv below P F K w.thread w.mailbox log) where

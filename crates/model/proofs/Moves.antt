@@ -1,32 +1,32 @@
 -- The exact answer to a move against the relations: what was granted could be, what halted the run broke a rule, and
 -- the other way round. Assumes nothing.
-use Rattle.std.proofs.Common.{◌≡◌, ℕ, ◌<◌, Bool, true, false, cond, not, ◌&&◌, T, eqb, ltb, ◌≢◌, ◌⊎◌, length, Some, None, Option, sym, refl, ap, ◌∙◌, subst, inl, inr, arith, eqb→eq, ltb→lt, lt→ltb}
-use lib.Dec.{eqb_refl}
+use Rattle.std.proofs.Common.{◌≡◌, ℕ, ◌<◌, Bool, true, false, cond, not, ◌&&◌, T, eqb, ltb, ◌≢◌, ◌⊎◌, length, Some, None, Option, sym, refl, ap, ◌∙◌, subst, inl, inr, arith, lt-ltb, ltb-true, ne_eqb}
+use Rattle.std.proofs.lemmas.Bool.{cond-false, eqb-false}
 use Rattle.model.specs.Machine.{State, asleep, running, home, Machine, Answer, granted, refused, found, next_step, next_line, holds_too, if_legal, judged, if_running, by_state, unless_halted, if_exists, answer, Done, Leaves, Move}
 use Rattle.model.specs.Mailbox.{MailboxKind}
 use Rattle.model.specs.Program.{Op, send, receive, acquire, release, start, Program, Step, operation, closing}
 use Rattle.model.specs.Promises.{GrantedOrBreached}
-use Rattle.model.specs.Rules.{Offence, first, unsettled, breach}
+use Rattle.model.specs.Rules.{Offence, unsettled, breach}
 use Rattle.model.proofs.Breaches.{step_op, op-step, step_end, end_step, settled-none, none-settled, legal-none, none-legal}
-use Rattle.model.proofs.Searches.{not_none, is_true, is_false, true_is, false_is, first-none, none_first, found_none}
+use Rattle.model.proofs.Searches.{not_none, first-none, none_first, found_none}
 use Rattle.model.proofs.Tools.{Turn, PermittedHere, Ready, Grantable, grants-op, grants-end, Breach, breaks-op, breaks-end, Grant, operates, closes, Seen}
 
 module _ {Level Message Mailbox : Type 0} (below : Level → Level → Bool) (P : Program Level Message) (K : MailboxKind Message Mailbox) (w : Machine Message Mailbox) (t : ℕ) where
   -- another thread that holds the lock, as a test and as a fact
-  held_too : (l u : ℕ) → u ≢ t → T ((w.thread u).locks l) → T (holds_too below P K w t l u)
-  held_too l u ne h = subst (λ (b : Bool). T (not b && (w.thread u).locks l)) (sym (is_false (eqb u t) (λ e. ne (eqb→eq u t e)))) h
+  pub held_too : (l u : ℕ) → u ≢ t → T ((w.thread u).locks l) → T (holds_too below P K w t l u)
+  held_too l u ne h = subst (λ (b : Bool). T (not b && (w.thread u).locks l)) (sym (ne_eqb u t ne)) h
 
-  too_held : (l u : ℕ) → T (holds_too below P K w t l u) → (u ≢ t) × T ((w.thread u).locks l)
+  pub too_held : (l u : ℕ) → T (holds_too below P K w t l u) → (u ≢ t) × T ((w.thread u).locks l)
   too_held l u h = go (eqb u t) refl h
     where
       go : (b : Bool) → eqb u t ≡ b → T (not b && (w.thread u).locks l) → (u ≢ t) × T ((w.thread u).locks l)
       go true e h = absurd h
-      go false e h = ((λ q. false_is _ e (subst (λ (y : ℕ). T (eqb u y)) q (eqb_refl u))), h)
+      go false e h = (eqb-false u t e, h)
 
   -- A legal operation that nothing keeps is granted.
   ready_granted : (o : Op Message) → Ready below P K w t o → if_legal below P K w t (operation o) ≡ granted (next_line below P K w t)
-  ready_granted (send c x) r = ap (λ (b : Bool). cond b (refused 36) (granted (next_line below P K w t))) (is_false _ (λ h. let e = eqb→eq (K.room w.mailbox c) 0 h in omega arith))
-  ready_granted (receive c) r = ap (λ (b : Bool). cond b (refused 35) (granted (next_line below P K w t))) (is_false _ (λ h. let e = eqb→eq (length (K.waiting w.mailbox c)) 0 h in omega arith))
+  ready_granted (send c x) r = cond-false _ (refused 36) _ (ne_eqb (K.room w.mailbox c) 0 (omega arith))
+  ready_granted (receive c) r = cond-false _ (refused 35) _ (ne_eqb (length (K.waiting w.mailbox c)) 0 (omega arith))
   ready_granted (acquire l) r = ap (λ (q : Option ℕ). cond (found q) (refused 35) (granted (next_line below P K w t)))
       (first-none (holds_too below P K w t l) 0 P.threads (λ u a b h. (let q = too_held l u h in r u (omega arith) q.0 q.1)))
   ready_granted (release l) r = refl
@@ -34,7 +34,7 @@ module _ {Level Message Mailbox : Type 0} (below : Level → Level → Bool) (P 
 
   running_is : Turn below P K w t → answer below P K w t ≡ if_running below P K w t (next_step below P K w t)
   running_is turn =
-      ap (if_exists below P K w t) (is_true _ (lt→ltb t P.threads turn.exists))
+      ap (if_exists below P K w t) (lt-ltb t P.threads turn.exists)
       ∙ ap (unless_halted below P K w t) turn.going ∙ ap (by_state below P K w t) turn.awake
 
   pub grantable_answer : Turn below P K w t → Grantable below P K w t → answer below P K w t ≡ granted (next_line below P K w t)
@@ -67,23 +67,17 @@ module _ {Level Message Mailbox : Type 0} (below : Level → Level → Bool) (P 
       done : (o : Op Message) → next_step below P K w t ≡ operation o → PermittedHere below P K w t o → Ready below P K w t o → Done P K w t w' (next_step below P K w t) → Grant below P K w t w'
       done o found legal ready d = operates turn o (step_op (P.ops t) (w.thread t).place o found) legal ready (subst (λ (s : Step Message). Done P K w t w' s) found d)
 
+      -- An operation that a test keeps is seen as refused or, where the test fails, as done.
+      unless_kept : (kept : Bool) (n : ℕ) (o : Op Message) → next_step below P K w t ≡ operation o → PermittedHere below P K w t o → (kept ≡ false → Ready below P K w t o) →
+          Sees (cond kept (refused n) (granted (next_line below P K w t)))
+      unless_kept true n o f legal ready d = d
+      unless_kept false n o f legal ready d = done o f legal (ready refl) d
+
       sees_legal : (o : Op Message) → next_step below P K w t ≡ operation o → PermittedHere below P K w t o → Sees (if_legal below P K w t (operation o))
-      sees_legal (send c x) f legal = go (eqb (K.room w.mailbox c) 0) refl
-        where
-          go : (b : Bool) → eqb (K.room w.mailbox c) 0 ≡ b → Sees (cond b (refused 36) (granted (next_line below P K w t)))
-          go true e d = d
-          go false e d = done (send c x) f legal (let ne : K.room w.mailbox c ≢ 0 = λ q. false_is _ e (subst (λ (y : ℕ). T (eqb y 0)) (sym q) tt) in omega arith) d
-      sees_legal (receive c) f legal = go (eqb (length (K.waiting w.mailbox c)) 0) refl
-        where
-          go : (b : Bool) → eqb (length (K.waiting w.mailbox c)) 0 ≡ b → Sees (cond b (refused 35) (granted (next_line below P K w t)))
-          go true e d = d
-          go false e d = done (receive c) f legal (let ne : length (K.waiting w.mailbox c) ≢ 0 = λ q. false_is _ e (subst (λ (y : ℕ). T (eqb y 0)) (sym q) tt) in omega arith) d
-      sees_legal (acquire l) f legal = go (found (first (holds_too below P K w t l) P.threads)) refl
-        where
-          go : (b : Bool) → found (first (holds_too below P K w t l) P.threads) ≡ b → Sees (cond b (refused 35) (granted (next_line below P K w t)))
-          go true e d = d
-          go false e d = done (acquire l) f legal
-              (λ u h ne held. none_first (holds_too below P K w t l) 0 P.threads (found_none _ e) u (omega arith) (omega arith) (held_too l u ne held)) d
+      sees_legal (send c x) f legal = unless_kept _ 36 (send c x) f legal (λ e. let ne : K.room w.mailbox c ≢ 0 = eqb-false _ 0 e in omega arith)
+      sees_legal (receive c) f legal = unless_kept _ 35 (receive c) f legal (λ e. let ne : length (K.waiting w.mailbox c) ≢ 0 = eqb-false _ 0 e in omega arith)
+      sees_legal (acquire l) f legal = unless_kept _ 35 (acquire l) f legal
+          (λ e u h ne held. none_first (holds_too below P K w t l) 0 P.threads (found_none _ e) u (omega arith) (omega arith) (held_too l u ne held))
       sees_legal (release l) f legal = λ d. done (release l) f legal tt d
       sees_legal (start u) f legal = λ d. done (start u) f legal tt d
 
@@ -111,7 +105,7 @@ module _ {Level Message Mailbox : Type 0} (below : Level → Level → Bool) (P 
     sees_going h false e = sees_state h e _ refl
 
     sees_exists : (b : Bool) → ltb t P.threads ≡ b → Sees (if_exists below P K w t b)
-    sees_exists true e = sees_going (ltb→lt t P.threads (true_is _ e)) _ refl
+    sees_exists true e = sees_going (ltb-true t P.threads e) _ refl
     sees_exists false e = λ d. d
 
     -- What a move with this answer was, and did.

@@ -4,23 +4,16 @@ use native.Mathlib.Decide.{dec_lt}
 use Rattle.model.specs.Program.{Op, send, receive, acquire, release, start, step_at, after}
 use Rattle.model.specs.Threads.{at_start, renamed, renamed_step, load, numbered}
 use Rattle.model.proofs.Tools.{At}
+use Rattle.model.proofs.Walks.{starts-some, grows}
 
 module _ {Message : Type 0} where
-  -- what an operation starts, from 1; 0 where it starts nothing
-  abbrev code : Op Message → ℕ
-  code (send c m) = 0
-  code (receive c) = 0
-  code (acquire l) = 0
-  code (release l) = 0
-  code (start u) = suc u
-
   -- A renamed operation that starts t.
   pub renamed-start : (u t : ℕ) (x : Op Message) → start t ≡ renamed u x → (k : ℕ) × (x ≡ start k) × (t ≡ u)
-  renamed-start u t (send c m) e = absurd (let n : suc t ≡ 0 = ap code e in omega arith)
-  renamed-start u t (receive c) e = absurd (let n : suc t ≡ 0 = ap code e in omega arith)
-  renamed-start u t (acquire l) e = absurd (let n : suc t ≡ 0 = ap code e in omega arith)
-  renamed-start u t (release l) e = absurd (let n : suc t ≡ 0 = ap code e in omega arith)
-  renamed-start u t (start k) e = (k, refl, let n : suc t ≡ suc u = ap code e in omega arith)
+  renamed-start u t (send c m) e = absurd (let n : suc t ≡ 0 = ap (at_start 0 suc) e in omega arith)
+  renamed-start u t (receive c) e = absurd (let n : suc t ≡ 0 = ap (at_start 0 suc) e in omega arith)
+  renamed-start u t (acquire l) e = absurd (let n : suc t ≡ 0 = ap (at_start 0 suc) e in omega arith)
+  renamed-start u t (release l) e = absurd (let n : suc t ≡ 0 = ap (at_start 0 suc) e in omega arith)
+  renamed-start u t (start k) e = (k, refl, let n : suc t ≡ suc u = ap (at_start 0 suc) e in omega arith)
 
   module _ (size : ℕ → ℕ) where
     -- the number of the first thread started at place p or later, where the first of all is u
@@ -28,9 +21,7 @@ module _ {Message : Type 0} where
     number xs p u = after (λ o u. u + at_start 0 size o) xs p u
 
     pub number-grows : (xs : List (Op Message)) (p u : ℕ) → u ≤ number xs p u
-    number-grows xs zero u = omega arith
-    number-grows [] (suc p) u = omega arith
-    number-grows (x ∷ xs) (suc p) u = omega (arith, number-grows xs p (u + at_start 0 size x))
+    number-grows xs p u = grows (at_start 0 size) xs p u
 
     pub numbered-length : (xs : List (Op Message)) (u : ℕ) → length (numbered size u xs) ≡ length xs
     numbered-length [] u = refl
@@ -57,18 +48,11 @@ module _ {Message : Type 0} where
         let s = renamed-start (number xs p u) t r.0 r.2 in
         (s.0, subst (At xs p) s.1 r.1, s.2)
 
-    starts-some : (x : Op Message) → 0 < at_start 0 size x → (k : ℕ) × (x ≡ start k) × (at_start 0 size x ≡ size k)
-    starts-some (send c m) h = absurd (omega arith)
-    starts-some (receive c) h = absurd (omega arith)
-    starts-some (acquire l) h = absurd (omega arith)
-    starts-some (release l) h = absurd (omega arith)
-    starts-some (start k) h = (k, refl, refl)
-
     -- Every number in the range of the started trees is in one of them.
     pub find-start : (xs : List (Op Message)) (c u : ℕ) → c ≤ u → u < c + load size xs →
         (p : ℕ) × (k : ℕ) × At xs p (start k) × (number xs p c ≤ u) × (u < number xs p c + size k)
     find-start [] c u l h = absurd (omega arith)
     find-start (x ∷ xs) c u l h = elim (dec_lt u (c + at_start 0 size x)) [
-      | yes y ↦ (let s = starts-some x (omega arith) in (0, s.0, s.1, l, omega (arith, s.2)))
+      | yes y ↦ (let s = starts-some size x (omega arith) in (0, s.0, s.1, l, omega (arith, s.2)))
       | no n ↦ (let r = find-start xs (c + at_start 0 size x) u (omega arith) (omega arith) in (suc r.0, r.1, r.2, r.3, r.4))
     ]

@@ -1,5 +1,5 @@
 -- The threads of a plan by task, and the promises said of it. Assumes nothing.
-use Rattle.std.proofs.Common.{◌≡◌, ℕ, suc, ◌+◌, ◌*◌, ◌<◌, ◌≤◌, Bool, ◌↔◌, length, sym, ap, ◌∙◌, subst, arith}
+use Rattle.std.proofs.Common.{◌≡◌, ℕ, suc, ◌+◌, ◌*◌, ◌<◌, ◌≤◌, Bool, ◌↔◌, length, sym, refl, ap, ◌∙◌, subst, arith}
 use mathlib.Core.Path.{fun_ext}
 use Rattle.model.specs.Accounts.{Bounded}
 use Rattle.model.specs.Program.{start, Program, tally, sum, send_weight, moves, sends, Within, Formed}
@@ -12,7 +12,7 @@ use Rattle.model.proofs.Numbers.{number-grows, numbered-length, numbered_step, n
 use Rattle.model.proofs.Rows.{Row}
 use Rattle.model.proofs.Seats.{row, main-known, task_of, woken-row, woken-is, woken-task, main_thread, threads_of}
 use Rattle.model.proofs.Tables.{sum-total, tree_of, weight_of, total-tree, sizes}
-use Rattle.model.proofs.TaskWalks.{after-numbered, send-renamed, within-renamed, walkable_of}
+use Rattle.model.proofs.TaskWalks.{after-numbered, renamed_as, within-renamed, walkable_of}
 use Rattle.model.proofs.Tools.{At, Known}
 
 module _ {Level Message : Type 0} (B : Program Level Message) (S : Sound B) where
@@ -66,7 +66,7 @@ module _ {Level Message : Type 0} (B : Program Level Message) (S : Known B) wher
       ap (λ f. sum f (by_thread B).threads) (fun_ext (λ t.
       ap (tally send_weight ((by_thread B).ops t)) (numbered-length (size B) (B.ops (task B t)) (suc t))
       ∙ after-numbered (size B) (λ o k. k + send_weight o) (λ o k. k + send_weight o) (B.ops (task B t)) (length (B.ops (task B t))) (suc t) 0
-      (λ q x b a. ap (λ k. b + k) (send-renamed B (woken_at B t q) x))))
+      (λ q x b a. ap (λ k. b + k) (renamed_as send_weight (woken_at B t q) (λ k. refl) x))))
       ∙ sum-threads (λ k. tally send_weight (B.ops k) (length (B.ops k)))
 
   pub cleared_of : (below : Level → Level → Bool) → Cleared (by_thread B) below ↔ Cleared B below

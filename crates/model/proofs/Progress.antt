@@ -1,67 +1,35 @@
 -- While a run is not halted and not all threads are home, some thread can move. Assumes nothing.
-use Rattle.std.proofs.Common.{◌≡◌, ℕ, zero, suc, ◌<◌, ◌≤◌, Bool, true, false, T, ◌≢◌, ◌⊎◌, List, [], ◌∷◌, length, ℤ, pos, ◌≤ℤ◌, ◌<ℤ◌, ap, subst, inl, inr, arith}
-use native.Mathlib.Decide.{ℕ_discrete}
-use lib.Signed.{lt_z, le_z}
+use Rattle.std.proofs.Common.{◌≡◌, ℕ, zero, suc, ◌<◌, ◌≤◌, Bool, true, false, T, ◌⊎◌, List, [], ◌∷◌, length, ℤ, pos, ◌≤ℤ◌, ◌<ℤ◌, Some, None, Option, refl, ap, subst, inl, inr, arith}
+use native.Mathlib.Decide.{map_dec, ℕ_discrete}
+use lib.Signed.{lt_z}
 use Rattle.std.proofs.lemmas.Int.{ints, by_lt_z}
 use Rattle.model.specs.History.{Entry}
-use Rattle.model.specs.Machine.{asleep, running, home, Machine}
+use Rattle.model.specs.Machine.{asleep, running, home, Machine, holds_too}
 use Rattle.model.specs.Mailbox.{MailboxKind}
-use Rattle.model.specs.Program.{Op, send, receive, acquire, release, start, Account, Locks, Program, tally, sumℤ, send_weight}
+use Rattle.model.specs.Program.{Op, send, receive, acquire, release, start, Program, tally, sumℤ, send_weight}
 use Rattle.model.specs.Promises.{AllHome}
-use Rattle.model.specs.Rules.{Irreflexive, Transitive}
-use Rattle.model.proofs.Finite.{find, split-all, decide_all, no_ascent}
+use Rattle.model.specs.Rules.{Irreflexive, Transitive, unsettled, breach}
+use Rattle.model.proofs.Breaches.{settled-none, none-settled, legal-none, none-legal}
+use Rattle.model.proofs.Finite.{find, split-all, no_ascent}
 use Rattle.model.proofs.Histories.{Inv}
+use Rattle.model.proofs.Moves.{held_too, too_held}
+use Rattle.model.proofs.Searches.{not_none}
 use Rattle.model.proofs.States.{apart}
 use Rattle.model.proofs.Steps.{Stand, sleeps, runs, rests}
 use Rattle.model.proofs.Sums.{sum_lt, sumℤ-above}
-use Rattle.model.proofs.Tools.{At, Busy, Settled, Under, Permitted, Frame, Turn, Next, Last, PermittedHere, Ready, Blocked, Grantable, grants-op, grants-end, Breach, breaks-op, breaks-end, Waiting}
+use Rattle.model.proofs.Tools.{At, Busy, Frame, Turn, Next, Last, PermittedHere, Ready, Blocked, Grantable, grants-op, grants-end, Breach, breaks-op, breaks-end, Waiting}
 use Rattle.model.proofs.Walks.{at-below, at_some, tally-within, tally_more}
 
 decide_T : (b : Bool) → Dec (T b)
 decide_T true = yes tt
 decide_T false = no (λ h. h)
 
-decide_implies : {A B : Type 0} → Dec A → Dec B → Dec (A → B)
-decide_implies (no na) b = yes (λ a. absurd (na a))
-decide_implies (yes a) (yes b) = yes (λ x. b)
-decide_implies (yes a) (no nb) = no (λ f. nb (f a))
+decide_owed : (a : ℤ) → Dec (a <ℤ pos 0)
+decide_owed a = map_dec (λ h. record { lt = h }) (λ h. h.lt) (decide_T (lt_z a (pos 0)))
 
-decide_both : {A B : Type 0} → Dec A → Dec B → Dec (A × B)
-decide_both (no na) b = no (λ p. na p.0)
-decide_both (yes a) (yes b) = yes (a, b)
-decide_both (yes a) (no nb) = no (λ p. nb p.1)
-
-decide_either : {A B : Type 0} → Dec A → Dec B → Dec (A ⊎ B)
-decide_either (yes a) b = yes (inl a)
-decide_either (no na) (yes b) = yes (inr b)
-decide_either (no na) (no nb) = no (elim [ inl a ↦ na a | inr b ↦ nb b ])
-
-decide_not : {A : Type 0} → Dec A → Dec (¬ A)
-decide_not (yes a) = no (λ n. n a)
-decide_not (no na) = yes na
-
-decide_owed : (a b : ℤ) → Dec (a <ℤ b)
-decide_owed a b = elim (decide_T (lt_z a b)) [ yes h ↦ yes (record { lt = h }) | no n ↦ no (λ h. n h.lt) ]
-
-decide_credit : (a b : ℤ) → Dec (a ≤ℤ b)
-decide_credit a b = elim (decide_T (le_z a b)) [ yes h ↦ yes (record { le = h }) | no n ↦ no (λ h. n h.le) ]
-
-module _ {Level Message : Type 0} (below : Level → Level → Bool) (P : Program Level Message) where
-  decide_busy : (a : Account) (h : Locks) (x : ℕ) → Dec (Busy a h x)
-  decide_busy a h x = decide_either (decide_owed (a x) (pos 0)) (decide_T (h x))
-
-  decide_under : (o : ℕ) (a : Account) (h : Locks) → Dec (Under P below o a h)
-  decide_under o a h = decide_all (λ x. Busy a h x → T (below (P.level x) (P.level o))) P.objects (λ x l. decide_implies (decide_busy a h x) (decide_T (below (P.level x) (P.level o))))
-
-  pub decide_legal : (o : Op Message) (a : Account) (h : Locks) → Dec (Permitted P below o a h)
-  decide_legal (send c m) a h = yes tt
-  decide_legal (receive c) a h = decide_both (decide_credit (pos 1) (a c)) (decide_under c a h)
-  decide_legal (acquire l) a h = decide_under l a h
-  decide_legal (release l) a h = decide_T (h l)
-  decide_legal (start u) a h = yes tt
-
-  pub decide_settled : (a : Account) (h : Locks) → Dec (Settled P a h)
-  decide_settled a h = decide_all (λ x. ¬ (Busy a h x)) P.objects (λ x l. decide_not (decide_busy a h x))
+decide_none : {A : Type 0} (r : Option A) → Dec (r ≡ None)
+decide_none None = yes refl
+decide_none (Some x) = no not_none
 
 -- the object for which an operation may wait
 module _ {Message : Type 0} where
@@ -100,9 +68,9 @@ module _ {Level Message Mailbox : Type 0} (below : Level → Level → Bool)
   ready_or_blocked t (send c m) h next = inl (room_left t c m h next)
   ready_or_blocked t (receive c) h next = elim (ℕ_discrete (length (K.waiting w.mailbox c)) 0) [ yes e ↦ inr e | no ne ↦ inl (omega arith) ]
   ready_or_blocked t (acquire l) h next =
-      elim (find (λ u. (u ≢ t) × T ((w.thread u).locks l)) P.threads (λ u k. decide_both (decide_not (ℕ_discrete u t)) (decide_T ((w.thread u).locks l)))) [
-        | inl r ↦ inr (r.0, r.1, r.2.0, r.2.1)
-        | inr none ↦ inl (λ u k ne held. none u k (ne, held))
+      elim (find (λ u. T (holds_too below P K w t l u)) P.threads (λ u k. decide_T (holds_too below P K w t l u))) [
+        | inl r ↦ (let q = too_held below P K w t l r.0 r.2 in inr (r.0, r.1, q.0, q.1))
+        | inr none ↦ inl (λ u k ne held. none u k (held_too below P K w t l u ne held))
       ]
   ready_or_blocked t (release l) h next = inl tt
   ready_or_blocked t (start u) h next = inl tt
@@ -118,18 +86,18 @@ module _ {Level Message Mailbox : Type 0} (below : Level → Level → Bool)
   classify going t h = go (i.stand t h)
     where
       at_op : Turn below P K w t → (o : Op Message) → Next below P K w t o → Movable t ⊎ (Waiting below P K w t ⊎ Idle t)
-      at_op turn o next = elim (decide_legal below P o (w.thread t).account (w.thread t).locks) [
-        | no illegal ↦ inl (turn, inr (breaks-op o next illegal))
-        | yes legal ↦ elim (ready_or_blocked t o h next) [
-          | inl ready ↦ inl (turn, inl (grants-op o next legal ready))
-          | inr blocked ↦ inr (inl (record { turn = turn; op = o; next = next; legal = legal; blocked = blocked }))
+      at_op turn o next = elim (decide_none (breach P below o (w.thread t).account (w.thread t).locks)) [
+        | no broken ↦ inl (turn, inr (breaks-op o next (λ l. broken (legal-none P below o _ _ l))))
+        | yes none ↦ elim (ready_or_blocked t o h next) [
+          | inl ready ↦ inl (turn, inl (grants-op o next (none-legal P below o _ _ none) ready))
+          | inr blocked ↦ inr (inl (record { turn = turn; op = o; next = next; legal = none-legal P below o _ _ none; blocked = blocked }))
         ]
       ]
 
       at-end : Turn below P K w t → Last below P K w t → Movable t ⊎ (Waiting below P K w t ⊎ Idle t)
-      at-end turn end = elim (decide_settled below P (w.thread t).account (w.thread t).locks) [
-        | yes settled ↦ inl (turn, inl (grants-end end settled))
-        | no unsettled ↦ inl (turn, inr (breaks-end end unsettled))
+      at-end turn end = elim (decide_none (unsettled P (w.thread t).account (w.thread t).locks)) [
+        | yes none ↦ inl (turn, inl (grants-end end (none-settled P _ _ none)))
+        | no broken ↦ inl (turn, inr (breaks-end end (λ s. broken (settled-none P _ _ s))))
       ]
 
       go : Stand below P F t (w.thread t) (w.thread (F.waker t)).place → Movable t ⊎ (Waiting below P K w t ⊎ Idle t)
@@ -155,7 +123,7 @@ module _ {Level Message Mailbox : Type 0} (below : Level → Level → Bool)
 
   -- On an empty channel for which one thread has a credit, another has a debt.
   debtor : (t c : ℕ) → t < P.threads → c < P.objects → pos 1 ≤ℤ (w.thread t).account c → length (K.waiting w.mailbox c) ≡ 0 → (u : ℕ) × (u < P.threads) × ((w.thread u).account c <ℤ pos 0)
-  debtor t c h k credit none = elim (find (λ u. (w.thread u).account c <ℤ pos 0) P.threads (λ u l. decide_owed ((w.thread u).account c) (pos 0))) [
+  debtor t c h k credit none = elim (find (λ u. (w.thread u).account c <ℤ pos 0) P.threads (λ u l. decide_owed ((w.thread u).account c))) [
     | inl r ↦ r
     | inr solvent ↦ absurd (
         let above : pos 1 ≤ℤ sumℤ (λ u. (w.thread u).account c) P.threads = sumℤ-above (λ u. (w.thread u).account c) P.threads t h credit (λ u l. by_lt_z ((w.thread u).account c) (pos 0) (λ owed. absurd (solvent u l owed)) (λ q. q)) in

@@ -2,10 +2,10 @@
 use Rattle.std.proofs.Common.{◌≡◌, ℕ, zero, suc, ◌+◌, ◌<◌, List, [], ◌∷◌, ◌++◌, map, length, get_or, sym, refl, ap, ◌∙◌, subst, ap₂, arith}
 use lib.ListN.{length-map}
 use Rattle.std.proofs.lemmas.List.{map-append}
-use Rattle.model.specs.Program.{Op, send, receive, acquire, release, start, Program}
+use Rattle.model.specs.Program.{Op, start, Program}
 use Rattle.model.specs.Threads.{at_start, forest, tree, size}
 use Rattle.model.proofs.Numbers.{number}
-use Rattle.model.proofs.Tables.{tree_of}
+use Rattle.model.proofs.Tables.{at_start_as, tree_of}
 use Rattle.model.proofs.Tools.{At, Known}
 
 pub record Row : Type 0 where
@@ -48,13 +48,6 @@ module _ (row : ℕ → Row) (n : ℕ) where
       subst (λ c. Placed c ys) z (placed_right (suc b) (length xs) xs ys refl p.2)
 
   module _ {Message : Type 0} (sz : ℕ → ℕ) (r : ℕ → ℕ → ℕ → ℕ → List Row) (b : ℕ) where
-    start-length : (x : Op Message) (c q : ℕ) → ((k : ℕ) → x ≡ start k → length (r k c b q) ≡ sz k) → length (at_start [] (λ k. r k c b q) x) ≡ at_start 0 sz x
-    start-length (send d m) c q e = refl
-    start-length (receive d) c q e = refl
-    start-length (acquire l) c q e = refl
-    start-length (release l) c q e = refl
-    start-length (start k) c q e = e k refl
-
     -- The rows of the tree that one operation starts stand where the numbering says.
     pub placed-start : (xs : List (Op Message)) (c q : ℕ) → ((p k : ℕ) → At xs p (start k) → (c q : ℕ) → length (r k c b q) ≡ sz k) →
         Placed c (brood sz r xs c b q) → (p k : ℕ) → At xs p (start k) → Placed (number sz xs p c) (r k (number sz xs p c) b (q + p))
@@ -70,7 +63,7 @@ module _ (row : ℕ → Row) (n : ℕ) where
         subst (λ v. Placed (number sz xs p c') (r k (number sz xs p c') b v)) z
         (placed-start xs c' (suc q) (λ p k a. long (suc p) k a)
         (placed_right c (at_start 0 sz x) (at_start [] (λ k. r k c b q) x) (brood sz r xs c' b (suc q))
-        (start-length x c q (λ k e. long 0 k e c q)) h)
+        (at_start_as length [] (λ k. r k c b q) sz x (λ k e. long 0 k e c q)) h)
         p k a)
 
 module _ {Level Message : Type 0} (B : Program Level Message) (S : Known B) where
@@ -79,21 +72,13 @@ module _ {Level Message : Type 0} (B : Program Level Message) (S : Known B) wher
   rows zero i b s p = []
   rows (suc f) i b s p = record { task = i; waker = s; waking = p } ∷ brood (size B) (rows f) (B.ops i) (suc b) b 0
 
-  map-start : (r : ℕ → ℕ → ℕ → ℕ → List Row) (x : Op Message) (c b q : ℕ) → ((k : ℕ) → x ≡ start k → map (λ (w : Row). w.task) (r k c b q) ≡ tree B k) →
-      map (λ (w : Row). w.task) (at_start [] (λ k. r k c b q) x) ≡ at_start [] (tree B) x
-  map-start r (send d m) c b q e = refl
-  map-start r (receive d) c b q e = refl
-  map-start r (acquire l) c b q e = refl
-  map-start r (release l) c b q e = refl
-  map-start r (start k) c b q e = e k refl
-
   brood-tasks : (r : ℕ → ℕ → ℕ → ℕ → List Row) (xs : List (Op Message)) (c b q : ℕ) →
       ((p k : ℕ) → At xs p (start k) → (c b q : ℕ) → map (λ (w : Row). w.task) (r k c b q) ≡ tree B k) →
       map (λ (w : Row). w.task) (brood (size B) r xs c b q) ≡ forest (tree B) xs
   brood-tasks r [] c b q e = refl
   brood-tasks r (x ∷ xs) c b q e =
       map-append (λ (w : Row). w.task) (at_start [] (λ k. r k c b q) x) (brood (size B) r xs (c + at_start 0 (size B) x) b (suc q))
-      ∙ ap₂ ◌++◌ (map-start r x c b q (λ k a. e 0 k a c b q)) (brood-tasks r xs (c + at_start 0 (size B) x) b (suc q) (λ p k a. e (suc p) k a))
+      ∙ ap₂ ◌++◌ (at_start_as (map (λ (w : Row). w.task)) [] (λ k. r k c b q) (tree B) x (λ k a. e 0 k a c b q)) (brood-tasks r xs (c + at_start 0 (size B) x) b (suc q) (λ p k a. e (suc p) k a))
 
   -- The tasks of the rows are the tree.
   pub rows-tasks : (f i b s p : ℕ) → i < f → i < B.threads → map (λ (w : Row). w.task) (rows f i b s p) ≡ tree B i

@@ -8,28 +8,17 @@ use Rattle.model.specs.Mailbox.{MailboxKind}
 use Rattle.model.specs.Position.{sent_on, received_on}
 use Rattle.model.specs.Program.{Op, send, receive, acquire, release, start, Account, Locks, Program, tally, sum, sumℤ, same, send_weight}
 use Rattle.model.specs.Rules.{locked, paid, account_at, locks_at}
+use Rattle.model.specs.Threads.{at_start}
 use Rattle.model.proofs.States.{apart}
 use Rattle.model.proofs.Sums.{same_refl, same_eq, same-other, sum_same, sum_change, sumℤ_change, sumℤ_change_2}
 use Rattle.model.proofs.Tools.{At, Settled, Permitted, Frame, Turn, Next, Last, PermittedHere, SettledHere}
-use Rattle.model.proofs.Walks.{at_one, at-below, after_more, after-end, tally_more, tally-end}
+use Rattle.model.proofs.Walks.{at_one, at-below, starts-some, after_more, after-end, tally_more, tally-end}
 
 module _ {Message : Type 0} where
-  -- whether an operation starts thread u
-  abbrev starts : Op Message → ℕ
-  starts (send c m) = 0
-  starts (receive c) = 0
-  starts (acquire l) = 0
-  starts (release l) = 0
-  starts (start u) = suc u
-
   is-start : (o : Op Message) (u : ℕ) → (o ≡ start u) ⊎ ¬ (o ≡ start u)
-  is-start (send c m) u = inr (λ e. let n : 0 ≡ suc u = ap starts e in omega arith)
-  is-start (receive c) u = inr (λ e. let n : 0 ≡ suc u = ap starts e in omega arith)
-  is-start (acquire l) u = inr (λ e. let n : 0 ≡ suc u = ap starts e in omega arith)
-  is-start (release l) u = inr (λ e. let n : 0 ≡ suc u = ap starts e in omega arith)
-  is-start (start v) u = elim (ℕ_discrete v u) [
-    | yes e ↦ inl (ap start e)
-    | no ne ↦ inr (λ e. let n : suc v ≡ suc u = ap starts e in ne (omega arith))
+  is-start o u = elim (ℕ_discrete (at_start 0 suc o) (suc u)) [
+    | yes e ↦ (let s = starts-some suc o (omega (arith, e)) in let n : s.0 ≡ u = omega (arith, e, s.2) in inl (s.1 ∙ ap start n))
+    | no ne ↦ inr (λ e. ne (ap (at_start 0 suc) e))
   ]
 
 module _ {Level Message : Type 0} (below : Level → Level → Bool) (P : Program Level Message) (F : Frame P) where
@@ -144,6 +133,14 @@ module _ {Level Message : Type 0} (below : Level → Level → Bool) (P : Progra
         abbrev Balanced : Machine Message Mailbox → ℕ → Type 0
         Balanced v x = sumℤ (λ u. (v.thread u).account x) P.threads +ℤ pos (sum (λ k. P.carries k x * len v.mailbox k) P.objects) ≡ pos (len v.mailbox x)
 
+        -- Where no account and no list changes.
+        balanced_still : (x : ℕ) → ((u : ℕ) → u ≢ t → w'.thread u ≡ w.thread u) → (w'.thread t).account x ≡ (w.thread t).account x → w'.mailbox ≡ w.mailbox → Balanced w x → Balanced w' x
+        balanced_still x others own mailbox h =
+            let here : len w'.mailbox x ≡ len w.mailbox x = ap (λ b. len b x) mailbox in
+            let accounts = accounts_change x others in
+            let carried = carried_same x mailbox in
+            omega (arith, ints)
+
         pub balanced_on : (o : Op Message) → Next below P K w t o → Performed P K w t w' o → (x : ℕ) →
             ((u : ℕ) → o ≡ start u → (u ≢ t) × (u < P.threads) × ((w.thread u).account x ≡ pos 0)) → Balanced w x → Balanced w' x
         balanced_on (send c m) next d x fresh h =
@@ -164,18 +161,8 @@ module _ {Level Message : Type 0} (below : Level → Level → Bool) (P : Progra
             let carried = carried_change c x inside (λ y ne. (let l = length-is (receive c) d y in omega (arith, same-other y c ne))) in
             let product : P.carries c x * len w.mailbox c ≡ P.carries c x * suc (len w'.mailbox c) = ap (λ n. P.carries c x * n) less in
             omega (arith, ints)
-        balanced_on (acquire l) next d x fresh h =
-            let own = d.account x in
-            let here = length-is (acquire l) d x in
-            let accounts = accounts_change x (λ u ne. d.others u ne tt) in
-            let carried = carried_same x d.delivered.0 in
-            omega (arith, ints)
-        balanced_on (release l) next d x fresh h =
-            let own = d.account x in
-            let here = length-is (release l) d x in
-            let accounts = accounts_change x (λ u ne. d.others u ne tt) in
-            let carried = carried_same x d.delivered.0 in
-            omega (arith, ints)
+        balanced_on (acquire l) next d x fresh h = balanced_still x (λ u ne. d.others u ne tt) (d.account x) d.delivered.0 h
+        balanced_on (release l) next d x fresh h = balanced_still x (λ u ne. d.others u ne tt) (d.account x) d.delivered.0 h
         balanced_on (start v) next d x fresh h =
             let own = d.account x in
             let woken = d.woken.account x in
@@ -188,12 +175,7 @@ module _ {Level Message : Type 0} (below : Level → Level → Bool) (P : Progra
             omega (arith, ints)
 
         pub balanced_closed : Closed P K w t w' → (x : ℕ) → Balanced w x → Balanced w' x
-        balanced_closed d x h =
-            let own = d.account x in
-            let here : len w'.mailbox x ≡ len w.mailbox x = ap (λ b. len b x) d.mailbox in
-            let accounts = accounts_change x (λ u ne. d.others u ne) in
-            let carried = carried_same x d.mailbox in
-            omega (arith, ints)
+        balanced_closed d x h = balanced_still x d.others (d.account x) d.mailbox h
 
         -- Where each thread stands after a granted operation.
         module _ (stand : (u : ℕ) → u < P.threads → Stand u (w.thread u) (w.thread (F.waker u)).place) where

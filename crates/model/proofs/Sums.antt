@@ -1,28 +1,20 @@
 -- Sums below a bound, when one summand changes. Assumes nothing.
-use Rattle.std.proofs.Common.{◌≡◌, ℕ, zero, suc, ◌+◌, ◌<◌, ◌≤◌, Bool, true, false, cond, T, eqb, ◌≢◌, ℤ, pos, ◌+ℤ◌, ◌≤ℤ◌, sym, refl, ap, ◌∙◌, arith, eqb→eq}
+use Rattle.std.proofs.Common.{◌≡◌, ℕ, zero, suc, ◌+◌, ◌<◌, ◌≤◌, eqb, ◌≢◌, ℤ, pos, ◌+ℤ◌, ◌≤ℤ◌, refl, ap, arith, eq-eqb, ne_eqb}
 use native.Mathlib.Decide.{ℕ_discrete}
-use lib.Dec.{eqb_refl}
+use Rattle.std.proofs.lemmas.Bool.{cond-true, cond-false}
 use Rattle.std.proofs.lemmas.Int.{ints}
 use Rattle.model.specs.Program.{sum, sumℤ, same}
 
-pub same_refl : (a : ℕ) → same a a ≡ 1
-unfolding same
-same_refl a = go (eqb a a) (eqb_refl a)
-  where
-    go : (b : Bool) → T b → cond {A = ℕ} b 1 0 ≡ 1
-    go true t = refl
-    go false t = absurd t
-
 pub same_eq : (a b : ℕ) → a ≡ b → same a b ≡ 1
-same_eq a b e = ap (same a) (sym e) ∙ same_refl a
+unfolding same
+same_eq a b e = cond-true (eqb a b) 1 0 (eq-eqb a b e)
+
+pub same_refl : (a : ℕ) → same a a ≡ 1
+same_refl a = same_eq a a refl
 
 pub same-other : (a b : ℕ) → a ≢ b → same a b ≡ 0
 unfolding same
-same-other a b ne = go (eqb a b) (λ t. ne (eqb→eq a b t))
-  where
-    go : (b : Bool) → ¬ (T b) → cond {A = ℕ} b 1 0 ≡ 0
-    go true t = absurd (t tt)
-    go false t = refl
+same-other a b ne = cond-false (eqb a b) 1 0 (ne_eqb a b ne)
 
 -- Two sums with the same summands.
 pub sum_same : (f g : ℕ → ℕ) (n : ℕ) → ((u : ℕ) → u < n → g u ≡ f u) → sum g n ≡ sum f n

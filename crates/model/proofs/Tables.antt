@@ -28,22 +28,22 @@ module _ {A : Type 0} (d : A) (step : ℕ → (ℕ → A) → A) where
   table-row n only i h =
       row_at n i h ∙ only i (λ k. get_or (table d step i) k d) (λ k. get_or (table d step n) k d) h (λ k l. row_at i k l ∙ sym (row_at n k (omega arith)))
 
-module _ {A Message : Type 0} (d : A) (f g : ℕ → A) where
-  pub at_start_same : (x : Op Message) → ((k : ℕ) → x ≡ start k → f k ≡ g k) → at_start d f x ≡ at_start d g x
-  at_start_same (send c m) e = refl
-  at_start_same (receive c) e = refl
-  at_start_same (acquire l) e = refl
-  at_start_same (release l) e = refl
-  at_start_same (start k) e = e k refl
+-- h of what stands for a start, where h makes f into g.
+pub at_start_as : {A B Message : Type 0} (h : A → B) (d : A) (f : ℕ → A) (g : ℕ → B) (x : Op Message) → ((k : ℕ) → x ≡ start k → h (f k) ≡ g k) → h (at_start d f x) ≡ at_start (h d) g x
+at_start_as h d f g (send c m) e = refl
+at_start_as h d f g (receive c) e = refl
+at_start_as h d f g (acquire l) e = refl
+at_start_as h d f g (release l) e = refl
+at_start_as h d f g (start k) e = e k refl
 
 module _ {Message : Type 0} where
   pub forest-same : (f g : ℕ → List ℕ) (xs : List (Op Message)) → ((p k : ℕ) → At xs p (start k) → f k ≡ g k) → forest f xs ≡ forest g xs
   forest-same f g [] e = refl
-  forest-same f g (x ∷ xs) e = ap₂ ◌++◌ (at_start_same [] f g x (λ k a. e 0 k a)) (forest-same f g xs (λ p k a. e (suc p) k a))
+  forest-same f g (x ∷ xs) e = ap₂ ◌++◌ (at_start_as (λ t. t) [] f g x (λ k a. e 0 k a)) (forest-same f g xs (λ p k a. e (suc p) k a))
 
   pub load_same : (f g : ℕ → ℕ) (xs : List (Op Message)) → ((p k : ℕ) → At xs p (start k) → f k ≡ g k) → load f xs ≡ load g xs
   load_same f g [] e = refl
-  load_same f g (x ∷ xs) e = ap₂ ◌+◌ (at_start_same 0 f g x (λ k a. e 0 k a)) (load_same f g xs (λ p k a. e (suc p) k a))
+  load_same f g (x ∷ xs) e = ap₂ ◌+◌ (at_start_as (λ t. t) 0 f g x (λ k a. e 0 k a)) (load_same f g xs (λ p k a. e (suc p) k a))
 
 -- the sum over a list
 abbrev pub total : (ℕ → ℕ) → List ℕ → ℕ
@@ -68,16 +68,9 @@ sum-total w [] = refl
 sum-total w (x ∷ xs) = sum-front (λ t. w (get_or (x ∷ xs) t 0)) (length xs) ∙ ap (λ k. w x + k) (sum-total w xs)
 
 module _ {Message : Type 0} (w : ℕ → ℕ) (tr : ℕ → List ℕ) where
-  total-start : (x : Op Message) → total w (at_start [] tr x) ≡ at_start 0 (λ k. total w (tr k)) x
-  total-start (send c m) = refl
-  total-start (receive c) = refl
-  total-start (acquire l) = refl
-  total-start (release l) = refl
-  total-start (start k) = refl
-
   pub total-forest : (xs : List (Op Message)) → total w (forest tr xs) ≡ load (λ k. total w (tr k)) xs
   total-forest [] = refl
-  total-forest (x ∷ xs) = total-append w (at_start [] tr x) (forest tr xs) ∙ ap₂ ◌+◌ (total-start x) (total-forest xs)
+  total-forest (x ∷ xs) = total-append w (at_start [] tr x) (forest tr xs) ∙ ap₂ ◌+◌ (at_start_as (total w) [] tr (λ k. total w (tr k)) x (λ k a. refl)) (total-forest xs)
 
 module _ {Level Message : Type 0} (B : Program Level Message) (S : Known B) where
   pub tree_of : (i : ℕ) → i < B.threads → tree B i ≡ i ∷ forest (tree B) (B.ops i)

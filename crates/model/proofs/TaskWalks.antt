@@ -1,6 +1,6 @@
 -- The walk of a thread is the walk of its task. Assumes nothing.
 use Rattle.std.proofs.Common.{◌≡◌, ℕ, zero, suc, ◌+◌, ◌<◌, Bool, ◌↔◌, List, [], ◌∷◌, length, ◌-ℤ◌, sym, refl, ap, ◌∙◌, subst, ap₂, subst₂}
-use Rattle.model.specs.Program.{Op, send, receive, acquire, release, start, Account, Locks, Program, after, send_weight, Within}
+use Rattle.model.specs.Program.{Op, send, receive, acquire, release, start, Account, Locks, Program, after, Within}
 use Rattle.model.specs.Rules.{locked, paid, account_at, locks_at}
 use Rattle.model.specs.Threads.{at_start, renamed, numbered, task, size, woken_at, by_thread}
 use Rattle.model.proofs.Numbers.{number, numbered-length, numbered-at, numbered-from}
@@ -17,6 +17,14 @@ module _ {Message A : Type 0} (sz : ℕ → ℕ) (f g : Op Message → A → A) 
       after-numbered xs p (u + at_start 0 sz x) (f (renamed u x) a) (λ q y b h. e (suc q) y b h)
       ∙ ap (after g xs p) (e 0 x a refl)
 
+-- What does not depend on the thread that an operation starts is the same of a renamed operation.
+pub renamed_as : {A Message : Type 0} (f : Op Message → A) (u : ℕ) → ((k : ℕ) → f (start u) ≡ f (start k)) → (x : Op Message) → f (renamed u x) ≡ f x
+renamed_as f u e (send c m) = refl
+renamed_as f u e (receive c) = refl
+renamed_as f u e (acquire l) = refl
+renamed_as f u e (release l) = refl
+renamed_as f u e (start k) = e k
+
 module _ {Level Message : Type 0} (B : Program Level Message) where
   -- A renamed operation does to an account what the operation does, if the thread that it starts is of that task.
   paid-renamed : (u : ℕ) (x : Op Message) (a : Account) → ((k : ℕ) → x ≡ start k → task B u ≡ k) → paid (by_thread B) (renamed u x) a ≡ paid B x a
@@ -25,20 +33,6 @@ module _ {Level Message : Type 0} (B : Program Level Message) where
   paid-renamed u (acquire l) a e = refl
   paid-renamed u (release l) a e = refl
   paid-renamed u (start k) a e = ap (λ i x. a x -ℤ B.opening i x) (e k refl)
-
-  locked-renamed : (u : ℕ) (x : Op Message) (h : Locks) → locked (renamed u x) h ≡ locked x h
-  locked-renamed u (send c m) h = refl
-  locked-renamed u (receive c) h = refl
-  locked-renamed u (acquire l) h = refl
-  locked-renamed u (release l) h = refl
-  locked-renamed u (start k) h = refl
-
-  pub send-renamed : (u : ℕ) (x : Op Message) → send_weight (renamed u x) ≡ send_weight x
-  send-renamed u (send c m) = refl
-  send-renamed u (receive c) = refl
-  send-renamed u (acquire l) = refl
-  send-renamed u (release l) = refl
-  send-renamed u (start k) = refl
 
   pub within-renamed : (u : ℕ) (x : Op Message) → Within B x → Within (by_thread B) (renamed u x)
   within-renamed u (send c m) h = h
@@ -62,7 +56,7 @@ module _ {Level Message : Type 0} (B : Program Level Message) where
 
     pub locks_of : (t p : ℕ) → locks_at (by_thread B) t p ≡ locks_at B (task B t) p
     locks_of t p = after-numbered (size B) (locked) (locked) (B.ops (task B t)) p (suc t) _
-        (λ q x b a. locked-renamed (woken_at B t q) x b)
+        (λ q x b a. renamed_as (λ o. locked o b) (woken_at B t q) (λ k. refl) x)
 
     module _ (below : Level → Level → Bool) where
       -- Thread t has each of its operations legal, and its closing, just if its task has.

@@ -1,6 +1,7 @@
 -- The items of a list by number, and what the first operations of a list come to. Assumes nothing.
 use Rattle.std.proofs.Common.{◌≡◌, ℕ, zero, suc, ◌+◌, ◌<◌, ◌≤◌, List, [], ◌∷◌, length, sym, refl, ap, ◌∙◌, arith}
-use Rattle.model.specs.Program.{Op, after, tally}
+use Rattle.model.specs.Program.{Op, send, receive, acquire, release, start, after, tally}
+use Rattle.model.specs.Threads.{at_start}
 use Rattle.model.proofs.Tools.{At}
 
 module _ {A : Type 0} where
@@ -20,6 +21,14 @@ module _ {A : Type 0} where
   at_some (x ∷ xs) (suc p) h = at_some xs p (omega arith)
 
 module _ {Message : Type 0} where
+  -- An operation that counts by what it starts starts something.
+  pub starts-some : (f : ℕ → ℕ) (x : Op Message) → 0 < at_start 0 f x → (k : ℕ) × (x ≡ start k) × (at_start 0 f x ≡ f k)
+  starts-some f (send c m) h = absurd (omega arith)
+  starts-some f (receive c) h = absurd (omega arith)
+  starts-some f (acquire l) h = absurd (omega arith)
+  starts-some f (release l) h = absurd (omega arith)
+  starts-some f (start k) h = (k, refl, refl)
+
   -- One operation more.
   pub after_more : {S : Type 0} (f : Op Message → S → S) (xs : List (Op Message)) (p : ℕ) (o : Op Message) (s : S) → At xs p o → after f xs (suc p) s ≡ f o (after f xs p s)
   after_more f [] p o s a = absurd a
@@ -32,7 +41,7 @@ module _ {Message : Type 0} where
   after-end f (x ∷ xs) s = after-end f xs (f x s)
 
   module _ (weight : Op Message → ℕ) where
-    grows : (xs : List (Op Message)) (p k : ℕ) → k ≤ after (λ o k. k + weight o) xs p k
+    pub grows : (xs : List (Op Message)) (p k : ℕ) → k ≤ after (λ o k. k + weight o) xs p k
     grows xs zero k = omega arith
     grows [] (suc p) k = omega arith
     grows (x ∷ xs) (suc p) k = omega (arith, grows xs p (k + weight x))

@@ -1,8 +1,9 @@
 -- Blank records after the records of a text add no task, no operation and no thread.
-use Rattle.std.proofs.Common.{◌≡◌, ℕ, zero, suc, ◌+◌, Bool, true, false, cond, List, [], ◌∷◌, ◌++◌, get_or, take, drop, replicate, sym, refl, ap, ◌∙◌, one-add, arith}
+use Rattle.std.proofs.Common.{◌≡◌, ℕ, zero, suc, ◌+◌, Bool, false, cond, List, [], ◌∷◌, ◌++◌, get_or, take, drop, replicate, refl, ap, ◌∙◌, arith}
 use mathlib.Core.Path.{fun_ext}
 use Rattle.std.specs.List.{prefix_len}
-use Rattle.std.proofs.lemmas.List.{drop_all}
+use Rattle.std.proofs.lemmas.List.{drop_all, take-append-le}
+use Rattle.std.proofs.lemmas.List.Sums.{prefix_len-le-length}
 use Rattle.std.proofs.lemmas.Bool.{cond-false}
 use Rattle.records.specs.declared.record.Record.{Record}
 use Rattle.records.specs.declared.rows.TaskRow.{TaskRow}
@@ -10,21 +11,13 @@ use Rattle.tasks.specs.Records.{blank, is_count, is_operation, is_task, no_task,
 use Rattle.tasks.specs.Threads.{body_of, crew, first_operation, front, main_task, operations_of, threads_in}
 
 module _ (p : Record → Bool) (fails : p blank ≡ false) where
-  leading_none : (n : ℕ) → prefix_len p (replicate n blank) ≡ 0
-  leading_none zero = refl
-  leading_none (suc n) = cond-false _ _ _ fails
-
   leading_blanks : (rs : List Record) (n : ℕ) → prefix_len p (rs ++ replicate n blank) ≡ prefix_len p rs
-  leading_blanks [] n = leading_none n
+  leading_blanks [] zero = refl
+  leading_blanks [] (suc n) = cond-false _ _ _ fails
   leading_blanks (r ∷ rs) n = ap (λ k. cond (p r) (1 + k) 0) (leading_blanks rs n)
 
   front_blanks : (rs : List Record) (n : ℕ) → front p (rs ++ replicate n blank) ≡ front p rs
-  front_blanks [] n = ap (λ k. take k (replicate n blank)) (leading_none n)
-  front_blanks (r ∷ rs) n =
-      elim (p r) as (λ b. take (cond b (1 + prefix_len p (rs ++ replicate n blank)) 0) (r ∷ (rs ++ replicate n blank)) ≡ take (cond b (1 + prefix_len p rs) 0) (r ∷ rs)) [
-        | true ↦ ap (λ k. take k (r ∷ (rs ++ replicate n blank))) (one-add (prefix_len p (rs ++ replicate n blank))) ∙ ap (λ xs. r ∷ xs) (front_blanks rs n) ∙ ap (λ k. take k (r ∷ rs)) (sym (one-add (prefix_len p rs)))
-        | false ↦ refl
-      ]
+  front_blanks rs n = ap (λ k. take k (rs ++ replicate n blank)) (leading_blanks rs n) ∙ take-append-le (prefix_len p rs) rs (replicate n blank) (prefix_len-le-length p rs)
 
   -- the same from a place on: `f` is what is said of the rest, and says of blanks what it says of nothing
   from_blanks : {Y : Type 0} (f : List Record → Y) → ((rs : List Record) (n : ℕ) → f (rs ++ replicate n blank) ≡ f rs) → (k : ℕ) (rs : List Record) (n : ℕ) → f (drop k (rs ++ replicate n blank)) ≡ f (drop k rs)
@@ -36,7 +29,7 @@ module _ (p : Record → Bool) (fails : p blank ≡ false) where
   pub leading_from : (k : ℕ) (rs : List Record) (n : ℕ) → prefix_len p (drop k (rs ++ replicate n blank)) ≡ prefix_len p (drop k rs)
   leading_from k rs n = from_blanks (prefix_len p) leading_blanks k rs n
 
-  pub front-from : (k : ℕ) (rs : List Record) (n : ℕ) → front p (drop k (rs ++ replicate n blank)) ≡ front p (drop k rs)
+  front-from : (k : ℕ) (rs : List Record) (n : ℕ) → front p (drop k (rs ++ replicate n blank)) ≡ front p (drop k rs)
   front-from k rs n = from_blanks (front p) front_blanks k rs n
 
 pub tasks_blanks : (line : ℕ) (rs : List Record) (n : ℕ) → tasks_from line (rs ++ replicate n blank) ≡ tasks_from line rs
@@ -49,7 +42,7 @@ operations_blanks rs n t =
     ap (λ k. front is_operation (drop (t.line + k) (rs ++ replicate n blank))) (leading_from is_count refl t.line rs n)
     ∙ front-from is_operation refl (first_operation rs t) rs n
 
-pub body_blanks : (rs : List Record) (n : ℕ) (tasks : List TaskRow) → body_of (rs ++ replicate n blank) tasks ≡ body_of rs tasks
+body_blanks : (rs : List Record) (n : ℕ) (tasks : List TaskRow) → body_of (rs ++ replicate n blank) tasks ≡ body_of rs tasks
 body_blanks rs n tasks = fun_ext (λ k. operations_blanks rs n (get_or tasks k no_task))
 
 pub threads_blanks : (rs : List Record) (n : ℕ) → threads_in (rs ++ replicate n blank) (tasks_of (rs ++ replicate n blank)) ≡ threads_in rs (tasks_of rs)

@@ -1,19 +1,20 @@
 -- The operations of a task: where each stands, what it names, and how many there are.
-use Rattle.std.proofs.Common.{◌≡◌, ℕ, zero, suc, ◌+◌, ◌<◌, ◌≤◌, Bool, true, false, List, [], ◌∷◌, ◌++◌, length, get_or, take, drop, codes, sym, refl, ap, ◌∙◌, ⊎_elim, arith}
-use Rattle.std.specs.List.{flat_map, prefix_len}
-use Rattle.std.proofs.lemmas.List.{append_assoc, get_or_append_left, get_or-drop, get_or-take, length-append, length-drop, length_push, take_all, take-append-drop, take_more}
-use Rattle.std.proofs.lemmas.Bool.{and_parts, cases_Bool, cond-false, cond-true, ltb-true}
+use Rattle.std.proofs.Common.{◌≡◌, ℕ, zero, suc, ◌+◌, ◌<◌, ◌≤◌, Bool, true, false, List, [], ◌∷◌, ◌++◌, length, get_or, take, drop, sym, refl, ap, ◌∙◌, subst, arith}
+use Rattle.std.specs.List.{prefix_len}
+use Rattle.std.proofs.lemmas.List.{get_or_append_left, get_or-drop, get_or-take, length-append, length_push, take_all, take-append-drop, take_more}
+use Rattle.std.proofs.lemmas.List.Concat.{flat_map-append}
+use Rattle.std.proofs.lemmas.List.Folds.{length-prefix_len}
+use Rattle.std.proofs.lemmas.Bool.{and_parts, cond_both, cond-false, cond-true, ltb-true}
 use Rattle.records.specs.declared.record.Record.{Record}
 use Rattle.records.specs.declared.rows.ObjectRow.{ObjectRow}
 use Rattle.tasks.specs.Records.{blank, has_room, is_count, is_object, is_operation, is_task, no_task, object_row, objects_in, objects_of, open_operations, tasks_of}
 use Rattle.tasks.specs.Roomy.{Roomy}
 use Rattle.tasks.specs.Threads.{body_of, first_operation}
 use Rattle.tasks.proofs.Pushed.{objects_push, open_push}
-use Rattle.text.specs.Text.{one_of}
 use Rattle.plan.specs.Good.{Uses}
 use Rattle.plan.specs.Program.{is_channel, no_object}
-use Rattle.plan.proofs.Leadings.{by_run, by_task, front_length, leading_at, task-line, tasks_by}
-use Rattle.plan.proofs.Sections.{count_no_task, operation_letter, operation_no_task}
+use Rattle.plan.proofs.Leadings.{by_run, by_task, leading_at, task-line, tasks_by}
+use Rattle.plan.proofs.Sections.{count_no_task, each_operation, operation_no_task}
 
 -- operation p of task k: the record at some index, after k + 1 T lines
 pub record Stands (rs : List Record) (k p : ℕ) : Type 0 where
@@ -25,7 +26,7 @@ pub record Stands (rs : List Record) (k p : ℕ) : Type 0 where
   pub tasks : tasks_by rs at ≡ k + 1
 
 pub body_length : (rs : List Record) (k : ℕ) → length (body_of rs (tasks_of rs) k) ≡ prefix_len is_operation (drop (first_operation rs (get_or (tasks_of rs) k no_task)) rs)
-body_length rs k = front_length is_operation blank (drop (first_operation rs (get_or (tasks_of rs) k no_task)) rs)
+body_length rs k = length-prefix_len is_operation (drop (first_operation rs (get_or (tasks_of rs) k no_task)) rs)
 
 pub stands : (rs : List Record) (k p : ℕ) → k < length (tasks_of rs) → p < length (body_of rs (tasks_of rs) k) → Stands rs k p
 stands rs k p h l =
@@ -35,26 +36,22 @@ stands rs k p h l =
     let start = first_operation rs (get_or (tasks_of rs) k no_task) in
     let ops = prefix_len is_operation (drop start rs) in
     let under : p < ops = omega (arith, body_length rs k) in
-    let at = leading_at is_operation blank (drop start rs) p under in
+    let at = leading_at is_operation blank rs start p under in
     let first : tasks_by rs line ≡ k + 1 = ap (tasks_by rs) t.line ∙ by_task rs t.at t.inside t.is-task ∙ ap (λ n. n + 1) t.before in
     record {
       at = start + p;
       place = refl;
-      inside = omega (arith, at.0, length-drop start rs);
+      inside = at.0;
       is = get_or-take ops (drop start rs) p blank under ∙ get_or-drop start rs p blank;
-      operation = ap is_operation (sym (get_or-drop start rs p blank)) ∙ at.1;
+      operation = at.1;
       tasks = by_run rs is_operation operation_no_task start p (omega arith) ∙ by_run rs is_count count_no_task line counts (omega arith) ∙ first;
     }
 
 -- objects of the records so far are objects of all records
 
-pub joined-append : {X A : Type 0} (f : X → List A) (xs ys : List X) → flat_map f (xs ++ ys) ≡ flat_map f xs ++ flat_map f ys
-joined-append f [] ys = refl
-joined-append f (x ∷ xs) ys = ap (λ zs. f x ++ zs) (joined-append f xs ys) ∙ sym (append_assoc (f x) (flat_map f xs) (flat_map f ys))
-
 pub uses_whole : (rs : List Record) (i : ℕ) (b : Bool) (x : ℕ) → Uses (take i rs) b x → Uses rs b x
 uses_whole rs i b x u =
-    let split : objects_of rs ≡ objects_of (take i rs) ++ objects_of (drop i rs) = ap objects_of (sym (take-append-drop i rs)) ∙ joined-append objects_in (take i rs) (drop i rs) in (
+    let split : objects_of rs ≡ objects_of (take i rs) ++ objects_of (drop i rs) = ap objects_of (sym (take-append-drop i rs)) ∙ flat_map-append objects_in (take i rs) (drop i rs) in (
       omega (arith, u.0, ap length split, length-append (objects_of (take i rs)) (objects_of (drop i rs))),
       ap (λ (o : ObjectRow). is_channel o.kind) (ap (λ os. get_or os x no_object) split ∙ get_or_append_left (objects_of (take i rs)) (objects_of (drop i rs)) no_object x u.0) ∙ u.1,
     )
@@ -71,8 +68,8 @@ operation-room rs r h no-object no-task o =
     let b = (and_parts _ _ h).1 in
     ltb-true _ _ (sym (cond-true _ _ _ o) ∙ sym (cond-false _ _ _ no-task) ∙ sym (cond-false _ _ _ no-object) ∙ b)
 
-pub operation_no_object : (r : Record) → is_operation r ≡ true → is_object r ≡ false
-operation_no_object r e = operation_letter (λ c. one_of c (codes "CK") ≡ false) (refl, (refl, (refl, (refl, (refl, tt))))) r e
+operation_no_object : (r : Record) → is_operation r ≡ true → is_object r ≡ false
+operation_no_object r e = each_operation (λ x. is_object x ≡ false) r (refl, (refl, (refl, (refl, (refl, tt))))) e
 
 module _ (rs : List Record) (room : Roomy rs) where
   objects_by : (i : ℕ) → i ≤ length rs → length (objects_of (take i rs)) ≤ 32
@@ -82,15 +79,10 @@ module _ (rs : List Record) (room : Roomy rs) where
       let r = get_or rs i blank in
       let before : List ObjectRow = objects_of (take i rs) in
       let more : objects_of (take (suc i) rs) ≡ before ++ objects_in r = ap (λ n. objects_of (take n rs)) next ∙ ap objects_of (take_more rs i blank (omega arith)) ∙ objects_push (take i rs) r in
-      ⊎_elim
-      (λ (yes : is_object r ≡ true).
-      let one : objects_in r ≡ object_row r ∷ [] = cond-true _ _ _ yes in
-      omega (arith, ap length (more ∙ ap (λ os. before ++ os) one), length_push before (object_row r), object-room (take i rs) r (room i (omega arith)) yes))
-      (λ (other : is_object r ≡ false).
-      let none : objects_in r ≡ [] = cond-false _ _ _ other in
-      let nil : List ObjectRow = [] in
-      omega (arith, ap length (more ∙ ap (λ os. before ++ os) none), length-append before nil, objects_by i (omega arith)))
-      (cases_Bool (is_object r))
+      let none : List ObjectRow = [] in
+      subst (λ os. length os ≤ 32) (sym more) (cond_both (is_object r) (object_row r ∷ []) none (λ os. length (before ++ os) ≤ 32)
+      (λ yes. omega (arith, length_push before (object_row r), object-room (take i rs) r (room i (omega arith)) yes))
+      (λ _. omega (arith, length-append before none, objects_by i (omega arith))))
 
   pub few_objects : length (objects_of rs) ≤ 32
   few_objects = omega (arith, objects_by (length rs) (omega arith), ap (λ xs. length (objects_of xs)) (take_all (length rs) rs (omega arith)))
@@ -102,19 +94,16 @@ module _ (rs : List Record) (room : Roomy rs) where
   open_run : (m p : ℕ) → p ≤ prefix_len is_operation (drop m rs) → p ≤ open_operations (take (m + p) rs)
   open_run m zero h = omega arith
   open_run m (suc p) h =
-      let at = leading_at is_operation blank (drop m rs) p (omega arith) in
-      let here : is_operation (get_or rs (m + p) blank) ≡ true = ap is_operation (sym (get_or-drop m rs p blank)) ∙ at.1 in
+      let at = leading_at is_operation blank rs m p (omega arith) in
       let next : m + p + 1 ≡ m + suc p = omega arith in
-      omega (arith, open_run m p (omega arith), open_more (m + p) (omega (arith, at.0, length-drop m rs)) here, ap (λ n. open_operations (take n rs)) next)
+      omega (arith, open_run m p (omega arith), open_more (m + p) at.0 at.1, ap (λ n. open_operations (take n rs)) next)
 
-  pub short_run : (m n : ℕ) → n ≤ prefix_len is_operation (drop m rs) → n ≤ 512
+  short_run : (m n : ℕ) → n ≤ prefix_len is_operation (drop m rs) → n ≤ 512
   short_run m zero h = omega arith
   short_run m (suc p) h =
-      let at = leading_at is_operation blank (drop m rs) p (omega arith) in
+      let at = leading_at is_operation blank rs m p (omega arith) in
       let r = get_or rs (m + p) blank in
-      let here : is_operation r ≡ true = ap is_operation (sym (get_or-drop m rs p blank)) ∙ at.1 in
-      let roomy : has_room (take (m + p) rs) r ≡ true = room (m + p) (omega (arith, at.0, length-drop m rs)) in
-      omega (arith, open_run m p (omega arith), operation-room (take (m + p) rs) r roomy (operation_no_object r here) (operation_no_task r here) here)
+      omega (arith, open_run m p (omega arith), operation-room (take (m + p) rs) r (room (m + p) at.0) (operation_no_object r at.1) (operation_no_task r at.1) at.1)
 
   pub short_body : (k : ℕ) → length (body_of rs (tasks_of rs) k) ≤ 512
   short_body k = short_run (first_operation rs (get_or (tasks_of rs) k no_task)) (length (body_of rs (tasks_of rs) k)) (omega (arith, body_length rs k))

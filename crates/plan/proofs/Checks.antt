@@ -1,5 +1,5 @@
 -- What the check of a sheet leaves true of its records, and that it leaves it true in one way.
-use Rattle.std.proofs.Common.{◌||◌, ◌≡◌, ℕ, ◌+◌, ◌-◌, ◌<◌, ◌≤◌, Bool, true, false, cond, eqb, List, [], ◌∷◌, ◌++◌, length, get_or, take, drop, replicate, ℤ, pos, negsuc, ◌≤ℤ◌, Ok, Err, sym, refl, ap, ◌∙◌, subst, ⊎_elim, arith}
+use Rattle.std.proofs.Common.{◌≡◌, ℕ, ◌+◌, ◌-◌, ◌<◌, ◌≤◌, Bool, true, false, cond, eqb, List, [], ◌∷◌, ◌++◌, length, get_or, take, drop, replicate, ℤ, pos, negsuc, ◌≤ℤ◌, Ok, Err, sym, refl, ap, ◌∙◌, subst, ⊎_elim, arith}
 use mathlib.Core.Bool.{Bool-set}
 use mathlib.Core.HLevel.{×_prop, ×₃_prop, →_prop, ⊥_prop}
 use mathlib.Core.Logic.{∥∥₁_elim}
@@ -8,8 +8,9 @@ use native.Mathlib.Nat.{ℕ_set}
 use lib.Dec.{T_prop}
 use lib.Signed.{le_z}
 use Rattle.std.specs.List.{prefix_len}
-use Rattle.std.proofs.lemmas.List.{get_or_append_left, get_or-append_right, get_or-replicate, length-append, length-replicate, length-take-le, take-append-le}
-use Rattle.std.proofs.lemmas.Bool.{cases_eq, cases_lt, eqb-false, eqb-true, false≢true}
+use Rattle.std.proofs.lemmas.List.{length-take-le}
+use Rattle.std.proofs.lemmas.List.Folds.{list_any-append}
+use Rattle.std.proofs.lemmas.Bool.{cases_eq, cond_both, eqb-false, eqb-true, or_left}
 use Rattle.records.specs.declared.fault.ReadFault.{ReadFault}
 use Rattle.records.specs.declared.record.Record.{Record}
 use Rattle.records.specs.declared.rows.TaskRow.{TaskRow}
@@ -23,44 +24,24 @@ use Rattle.plan.specs.Good.{Between, Checked, Good, Uses}
 use Rattle.plan.specs.Plans.{WasRead, records_in}
 use Rattle.plan.proofs.Blanks.{leading_from, tasks_blanks}
 use Rattle.plan.proofs.Goods.{all-good}
-use Rattle.plan.proofs.Rooms.{all-roomy, and_ok, let_through, roomy-blank}
+use Rattle.plan.proofs.Rooms.{all-roomy, and_ok, let_through, roomy-blank, with_blanks}
 use Rattle.plan.proofs.Wholes.{lines-shown}
 
 -- a test that refuses, refuses nothing that went through
 held : {A E : Type 0} (b : Bool) (x y : A) (f : E) → cond b (Err f) (Ok x) ≡ Ok y → b ≡ false
-held true x y f e = let z : ◌≡◌ {A = ℕ} 0 1 = cc in absurd (omega arith)
+held true x y f e = cc
 held false x y f e = refl
 
 started-at : (rs : List Record) (m : ℕ) (ts : List TaskRow) (u : Unit {0}) → started_from rs m ts ≡ Ok u → (k : ℕ) → m ≤ k → k < m + length ts → some (is_start_of k) rs ≡ true
 started-at rs m [] u e k h l = absurd (omega arith)
 started-at rs m (t ∷ ts) u e k h l =
-    (elim (some (is_start_of m) rs) as (λ b. some (is_start_of m) rs ≡ b → cond b (started_from rs (m + 1) ts) (Err (ReadFault.NeverStarted t.line)) ≡ Ok u → some (is_start_of k) rs ≡ true) [
-      | true ↦ λ here rest.
-          ⊎_elim
-          (λ (same : m ≡ k). subst (λ n. some (is_start_of n) rs ≡ true) same here)
-          (λ (other : m ≡ k → ⊥). started-at rs (m + 1) ts u rest k (omega arith) (omega arith))
-          (cases_eq m k)
-      | false ↦ λ here rest. let z : ◌≡◌ {A = ℕ} 0 1 = cc in absurd (omega arith)
-    ]) refl e
-
-some_left : {A : Type 0} (p : A → Bool) (xs ys : List A) → some p xs ≡ true → some p (xs ++ ys) ≡ true
-some_left p [] ys e = absurd (false≢true e)
-some_left p (x ∷ xs) ys e =
-    (elim (p x) as (λ b. (b || some p xs) ≡ true → (b || some p (xs ++ ys)) ≡ true) [ true ↦ λ f. refl | false ↦ λ f. some_left p xs ys f ]) e
-
-good_blanks : (rs : List Record) (n : ℕ) → ((i : ℕ) → i < length rs → Good (take i rs) (get_or rs i blank))
-    → (i : ℕ) → i < length (rs ++ replicate n blank) → ((get_or (rs ++ replicate n blank) i blank).letter ≡ 0 → ⊥) → Good (take i (rs ++ replicate n blank)) (get_or (rs ++ replicate n blank) i blank)
-good_blanks rs n good i h written =
+    cond_both (some (is_start_of m) rs) (started_from rs (m + 1) ts) (Err (ReadFault.NeverStarted t.line)) (λ v. v ≡ Ok u → some (is_start_of k) rs ≡ true)
+    (λ here rest.
     ⊎_elim
-    (λ (here : i < length rs).
-    subst (λ xs. Good xs (get_or (rs ++ replicate n blank) i blank)) (sym (take-append-le i rs (replicate n blank) (omega arith)))
-    (subst (Good (take i rs)) (sym (get_or_append_left rs (replicate n blank) blank i here)) (good i here)))
-    (λ (past : length rs ≤ i).
-    let at : get_or (rs ++ replicate n blank) i blank ≡ blank =
-    get_or-append_right rs (replicate n blank) (length rs) i blank refl past
-    ∙ get_or-replicate n (i - length rs) blank blank (omega (arith, length-append rs (replicate n blank), length-replicate n blank)) in
-    absurd (written (ap (λ (r : Record). r.letter) at)))
-    (cases_lt i (length rs))
+    (λ (same : m ≡ k). subst (λ n. some (is_start_of n) rs ≡ true) same here)
+    (λ (other : m ≡ k → ⊥). started-at rs (m + 1) ts u rest k (omega arith) (omega arith))
+    (cases_eq m k))
+    (λ _ fault. cc) e
 
 -- the records of a text, and any number of blank ones
 checked_blanks : (rs : List Record) (n : ℕ) → ((i : ℕ) → i < length rs → Good (take i rs) (get_or rs i blank)) → Roomy rs → length rs + n ≤ 800 → finished rs (tasks_of rs) ≡ Ok tt
@@ -75,15 +56,15 @@ checked_blanks rs n good room few done =
     let has_task : 0 < length tasks = omega (arith, none) in
     let main = eqb-true _ _ (let_through (eqb (prefix_len is_count (drop (last_task_line tasks) rs)) 0) tt c.0 _ c.1).0 in
     record {
-      good = good_blanks rs n good;
+      good = λ i h written. ⊎_elim (λ g. g) (λ is. absurd (written (ap (λ (r : Record). r.letter) is))) (with_blanks Good rs n good i h);
       roomy = roomy-blank rs n room few;
       has_task = omega (arith, has_task, ap length same);
-      started = λ k h. some_left (is_start_of k) rs (replicate n blank)
+      started = λ k h. list_any-append (is_start_of k) rs (replicate n blank) ∙ or_left _ _
           (started-at rs 0 (take (length tasks - 1) tasks) b.0 b.1 k (omega arith) (omega (arith, h, ap length same, length-take-le (length tasks - 1) tasks (omega arith))));
       main_counts = leading_from is_count refl (last_task_line (tasks_of (rs ++ replicate n blank))) rs n ∙ ap (λ ts. prefix_len is_count (drop (last_task_line ts) rs)) same ∙ main;
     }
 
-pub checked-shown : (o : Written) (text : List ℕ) (sheet : List Record) → Shows (reading o text (length sheet)) sheet → Checked (records_in sheet)
+checked-shown : (o : Written) (text : List ℕ) (sheet : List Record) → Shows (reading o text (length sheet)) sheet → Checked (records_in sheet)
 checked-shown o text sheet s =
     let l = lines-shown o text sheet s in
     let rs = l.records in
@@ -115,7 +96,7 @@ good_prop rs r x y = λ i. record {
   starts = λ e. le_prop (x.starts e) (y.starts e) i;
 }
 
-pub checked_prop : (rs : List Record) → IsProp (Checked rs)
+checked_prop : (rs : List Record) → IsProp (Checked rs)
 checked_prop rs x y = λ i. record {
   good = λ j h w. good_prop (take j rs) (get_or rs j blank) (x.good j h w) (y.good j h w) i;
   roomy = λ j h. Bool-set _ _ (x.roomy j h) (y.roomy j h) i;

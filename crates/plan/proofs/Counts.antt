@@ -1,8 +1,9 @@
 -- The threads, moves and sends that are counted from the records are those of the program that they mean.
-use Rattle.std.proofs.Common.{◌≡◌, ℕ, zero, suc, ◌+◌, ◌<◌, Bool, true, false, cond, eqb, List, [], ◌∷◌, ◌++◌, map, length, get_or, ℤ, codes, sum_by, count_by, sym, refl, ap, ◌∙◌, subst, ap₂, arith}
+use Rattle.std.proofs.Common.{◌≡◌, ℕ, zero, suc, ◌+◌, ◌<◌, Bool, true, false, cond, eqb, List, [], ◌∷◌, ◌++◌, map, length, get_or, ℤ, sum_by, count_by, sym, refl, ap, ◌∙◌, ap₂, arith}
 use Rattle.std.proofs.lemmas.List.{length-map}
+use Rattle.std.proofs.lemmas.List.Recursion.{is_sum_by}
 use Rattle.std.proofs.lemmas.List.Sums.{sum_by-cons}
-use Rattle.std.proofs.lemmas.Bool.{and_from, and_left, cond-false, cond-true, eqb-true, lt-ltb}
+use Rattle.std.proofs.lemmas.Bool.{cond-true, lt-ltb}
 use Rattle.model.specs.Program.{Program, acquire, after, send_weight, moves, receive, release, send, sends, start, tally}
 use Rattle.model.specs.Threads.{Sound, Threads, at_start, by_thread, forest, main, tree, weight}
 use Rattle.model.proofs.Plans.{known, thread-laws}
@@ -12,35 +13,18 @@ use Rattle.tasks.specs.Records.{blank, is_operation, is_send, is_start, tasks_of
 use Rattle.tasks.specs.Threads.{body_of, brought, crew, moves_in, moves_of, sends_in, sends_of, starts, threads_in}
 use Rattle.tasks.proofs.Crews.{crew-rule}
 use Rattle.text.specs.Text.{byte}
-use Rattle.plan.specs.Good.{Checked, is_locking, is_receive}
+use Rattle.plan.specs.Good.{Checked, is_receive}
 use Rattle.index.specs.Amounts.{natural}
 use Rattle.plan.specs.Program.{op_of, program_of}
-use Rattle.plan.proofs.Sections.{one_of_lem}
-use Rattle.plan.proofs.Sounds.{op_cases, sound_program, start-above}
-
--- an operation that is no start brings about nothing
-
-send_no_start : (r : Record) → is_send r ≡ true → is_start r ≡ false
-send_no_start r e = subst (λ c. eqb c (byte "F") ≡ false) (sym (eqb-true r.letter (byte "S") e)) refl
-
-receive_no_start : (r : Record) → is_receive r ≡ true → is_start r ≡ false
-receive_no_start r e = subst (λ c. eqb c (byte "F") ≡ false) (sym (eqb-true r.letter (byte "R") e)) refl
-
-lock_no_start : (r : Record) → is_locking r ≡ true → is_start r ≡ false
-lock_no_start r e = one_of_lem (λ c. eqb c (byte "F") ≡ false) r.letter (codes "AL") (refl, (refl, tt)) e
+use Rattle.plan.proofs.Sections.{each_operation}
+use Rattle.plan.proofs.Sounds.{sound_program, start-above}
 
 module _ (f g : ℕ → List ℕ) (k : ℕ) where
-  nothing : (r : Record) → is_start r ≡ false → cond (starts k r) (f r.first) [] ≡ []
-  nothing r e = cond-false _ _ _ (and_left _ _ e)
-
+  -- an operation that is no start brings about nothing
   brought-one : (r : Record) → is_operation r ≡ true → (is_start r ≡ true → (r.first < k) × (f r.first ≡ g r.first)) → cond (starts k r) (f r.first) [] ≡ at_start [] g (op_of r)
   brought-one r o s =
-      op_cases (λ x. cond (starts k r) (f r.first) [] ≡ at_start [] g x) r o
-      (λ e. nothing r (send_no_start r e))
-      (λ e. nothing r (receive_no_start r e))
-      (λ e. nothing r (lock_no_start r e))
-      (λ e. nothing r (lock_no_start r e))
-      (λ e. cond-true _ _ _ (and_from _ _ e (lt-ltb _ _ (s e).0)) ∙ (s e).1)
+      each_operation (λ x. (is_start x ≡ true → (x.first < k) × (f x.first ≡ g x.first)) → cond (starts k x) (f x.first) [] ≡ at_start [] g (op_of x)) r
+      (λ _. refl, (λ _. refl, (λ _. refl, (λ _. refl, (λ h. cond-true _ _ _ (lt-ltb _ _ (h refl).0) ∙ (h refl).1, tt))))) o s
 
   brought-forest : (xs : List Record) → ((i : ℕ) → i < length xs → (is_operation (get_or xs i blank) ≡ true) × (is_start (get_or xs i blank) ≡ true → ((get_or xs i blank).first < k) × (f (get_or xs i blank).first ≡ g (get_or xs i blank).first)))
       → brought f k xs ≡ forest g (map op_of xs)
@@ -49,8 +33,7 @@ module _ (f g : ℕ → List ℕ) (k : ℕ) where
 
 -- sums over a list
 sum_by_total : (f w : ℕ → ℕ) → ((k : ℕ) → f k ≡ w k) → (xs : List ℕ) → sum_by f xs ≡ total w xs
-sum_by_total f w e [] = refl
-sum_by_total f w e (x ∷ xs) = omega (arith, sum_by-cons f x xs, e x, sum_by_total f w e xs)
+sum_by_total f w e xs = sym (is_sum_by (total w) f refl (λ x is. ap (λ n. n + total w is) (sym (e x))) xs)
 
 send-op : (r : Record) → send_weight (op_of r) ≡ cond (is_send r) 1 0
 send-op r = go (is_send r) (is_receive r) (eqb r.letter (byte "A")) (eqb r.letter (byte "L"))

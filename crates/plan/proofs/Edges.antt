@@ -1,7 +1,8 @@
 -- Past the tasks and the objects of checked records there is nothing.
 use Rattle.std.proofs.Common.{◌≡◌, ℕ, suc, ◌+◌, ◌<◌, ◌≤◌, true, false, cond, ◌&&◌, eqb, ◌⊎◌, List, [], ◌∷◌, length, get_or, take, drop, ℤ, pos, sym, refl, ap, ◌∙◌, inr, ⊎_elim, arith}
 use Rattle.std.specs.List.{prefix_len}
-use Rattle.std.proofs.lemmas.List.{get_or-drop, get_or_past, get_or-take, length-drop}
+use Rattle.std.proofs.lemmas.List.{get_or-drop, get_or_past, get_or-take, length-take-le}
+use Rattle.std.proofs.lemmas.List.Sums.{prefix_len-le-length}
 use Rattle.std.proofs.lemmas.Bool.{and_parts, cases_Bool, cases_lt, eqb-true}
 use Rattle.index.specs.Amounts.{carried_by, carries_of, counted_on, natural}
 use Rattle.records.specs.declared.record.Record.{Record}
@@ -11,7 +12,7 @@ use Rattle.plan.specs.Good.{Checked, is_carry}
 use Rattle.plan.specs.Meaning.{Narrow}
 use Rattle.plan.specs.Program.{program_of, task_at}
 use Rattle.plan.proofs.Bodies.{few_objects, uses_whole}
-use Rattle.plan.proofs.Leadings.{front_length, leading_at, leading_stops}
+use Rattle.plan.proofs.Leadings.{leading_at, leading_stops}
 use Rattle.plan.proofs.Limits.{carry_no_blank}
 use Rattle.plan.proofs.Sections.{count_inner, count_no_blank, not_first, operation_inner, operation_no_blank}
 
@@ -40,10 +41,10 @@ module _ (rs : List Record) (C : Checked rs) where
       (cases_lt 0 (length rs))
 
   no-counts : prefix_len is_count rs ≡ 0
-  no-counts = leading_stops is_count blank rs 0 (omega arith) first_no_count
+  no-counts = leading_stops is_count blank rs 0 0 0 (omega arith) (omega arith) first_no_count
 
   no-operations : prefix_len is_operation rs ≡ 0
-  no-operations = leading_stops is_operation blank rs 0 (omega arith) first_no_operation
+  no-operations = leading_stops is_operation blank rs 0 0 0 (omega arith) (omega arith) first_no_operation
 
   pub past_first : first_operation rs no_task ≡ 0
   past_first = omega (arith, no-counts)
@@ -95,16 +96,16 @@ module _ (rs : List Record) (C : Checked rs) where
 
   counts_name : (m i : ℕ) → i < prefix_len is_count (drop m rs) → (get_or (take (prefix_len is_count (drop m rs)) (drop m rs)) i blank).first < 32
   counts_name m i h =
-      let at = leading_at is_count blank (drop m rs) i h in
+      let at = leading_at is_count blank rs m i h in
       let is : get_or (take (prefix_len is_count (drop m rs)) (drop m rs)) i blank ≡ get_or rs (m + i) blank = get_or-take (prefix_len is_count (drop m rs)) (drop m rs) i blank h ∙ get_or-drop m rs i blank in
-      let few = count_names rs C (m + i) (omega (arith, at.0, length-drop m rs)) (ap is_count (sym (get_or-drop m rs i blank)) ∙ at.1) in
+      let few = count_names rs C (m + i) at.0 at.1 in
       omega (arith, few, ap (λ (r : Record). r.first) is)
 
   pub counted_past : (k x : ℕ) → 32 ≤ x → counted_on (counts_of rs (task_at rs k)) x ≡ pos 0
   counted_past k x far =
       let line = (task_at rs k).line in
       counted_none (counts_of rs (task_at rs k)) x (λ i h e.
-      omega (arith, counts_name line i (omega (arith, h, front_length is_count blank (drop line rs)))))
+      omega (arith, counts_name line i (omega (arith, h, length-take-le (prefix_len is_count (drop line rs)) (drop line rs) (prefix_len-le-length is_count (drop line rs))))))
 
   pub narrow_program : {Level : Type 0} (made : ℤ → ℤ → Level) → Narrow (program_of made rs)
   narrow_program made = record {

@@ -1,9 +1,9 @@
 -- The sections of a text: an operation stands among the operations of a task.
 use Rattle.std.proofs.Common.{◌||◌, ◌≡◌, ℕ, zero, suc, ◌+◌, ◌-◌, ◌<◌, Bool, true, false, cond, eqb, ◌⊎◌, List, [], ◌∷◌, length, get_or, take, drop, codes, sym, refl, ap, ◌∙◌, subst, inl, inr, ⊎_elim, arith}
 use Rattle.std.specs.List.{prefix_len, AllByRecursion as All}
-use Rattle.std.proofs.lemmas.List.{get_or-drop, get_or-take, length-drop, length-take-le}
+use Rattle.std.proofs.lemmas.List.{get_or-take, length-take-le}
 use Rattle.std.proofs.lemmas.List.Sums.{prefix_len-drop_no, prefix_len-drop_yes}
-use Rattle.std.proofs.lemmas.Bool.{eqb-true, false≢true}
+use Rattle.std.proofs.lemmas.Bool.{eqb-true, false≢true, or_cases, or_parts}
 use Rattle.records.specs.declared.record.Record.{Record}
 use Rattle.records.specs.declared.rows.TaskRow.{TaskRow}
 use Rattle.reader.specs.Lines.{may_follow, section_of}
@@ -13,42 +13,38 @@ use Rattle.tasks.specs.Threads.{first_operation}
 use Rattle.text.specs.Text.{byte, one_of}
 use Rattle.plan.specs.Good.{Good}
 use Rattle.plan.proofs.Leadings.{by_task, by_whole, leading_on, leading_stops, row_here, tasks_by}
+use Rattle.plan.proofs.Rooms.{no}
 
-pub no : {A : Type 0} → false ≡ true → A
-no e = absurd (false≢true e)
+-- a record with another letter
+abbrev pub lettered : Record → ℕ → Record
+lettered r c = record { letter = c; first = r.first; second = r.second; number = r.number; extra = r.extra; name = r.name }
 
--- a letter is one of a few
-pub one_of_lem : (P : ℕ → Type 0) (c : ℕ) (cs : List ℕ) → All P cs → one_of c cs ≡ true → P c
-one_of_lem P c [] a e = no e
-one_of_lem P c (x ∷ xs) a e =
-    (elim (eqb c x) as (λ b. eqb c x ≡ b → (b || one_of c xs) ≡ true → P c) [
-      | true ↦ λ h f. subst P (sym (eqb-true c x h)) a.0
-      | false ↦ λ h f. one_of_lem P c xs a.1 f
-    ]) refl e
+-- what holds of a record with this letter holds of a record that has it
+pub with_letter : (P : Record → Type 0) (r : Record) (c : ℕ) → P (lettered r c) → eqb r.letter c ≡ true → P r
+with_letter P r c h e = subst (λ x. P (lettered r x)) (sym (eqb-true r.letter c e)) h
 
-pub operation_letter : (P : ℕ → Type 0) → All P (codes "SRALF") → (r : Record) → is_operation r ≡ true → P r.letter
-operation_letter P a r e = one_of_lem P r.letter (codes "SRALF") a e
+-- and with each of these letters, of a record that has one of them
+with_one : (P : Record → Type 0) (r : Record) (cs : List ℕ) → All (λ c. P (lettered r c)) cs → one_of r.letter cs ≡ true → P r
+with_one P r [] h e = no e
+with_one P r (c ∷ cs) h e = ⊎_elim (with_letter P r c h.0) (with_one P r cs h.1) (or_cases _ _ e)
 
-pub count_letter : (P : ℕ → Type 0) → P (byte "Q") → (r : Record) → is_count r ≡ true → P r.letter
-count_letter P a r e = subst P (sym (eqb-true r.letter (byte "Q") e)) a
+pub each_operation : (P : Record → Type 0) (r : Record) → All (λ c. P (lettered r c)) (codes "SRALF") → is_operation r ≡ true → P r
+each_operation P r h e = with_one P r (codes "SRALF") h e
 
 pub operation_no_task : (r : Record) → is_operation r ≡ true → is_task r ≡ false
-operation_no_task r e = operation_letter (λ c. eqb c (byte "T") ≡ false) (refl, (refl, (refl, (refl, (refl, tt))))) r e
+operation_no_task r e = each_operation (λ x. is_task x ≡ false) r (refl, (refl, (refl, (refl, (refl, tt))))) e
 
 pub count_no_task : (r : Record) → is_count r ≡ true → is_task r ≡ false
-count_no_task r e = count_letter (λ c. eqb c (byte "T") ≡ false) refl r e
+count_no_task r e = with_letter (λ x. is_task x ≡ false) r (byte "Q") refl e
 
 operation_no_count : (r : Record) → is_operation r ≡ true → is_count r ≡ false
-operation_no_count r e = operation_letter (λ c. eqb c (byte "Q") ≡ false) (refl, (refl, (refl, (refl, (refl, tt))))) r e
-
-zero_false : (c : ℕ) → eqb c 0 ≡ false → c ≡ 0 → ⊥
-zero_false c e z = let f : eqb 0 0 ≡ false = subst (λ n. eqb n 0 ≡ false) z e in false≢true (sym f)
+operation_no_count r e = each_operation (λ x. is_count x ≡ false) r (refl, (refl, (refl, (refl, (refl, tt))))) e
 
 pub operation_no_blank : (r : Record) → is_operation r ≡ true → r.letter ≡ 0 → ⊥
-operation_no_blank r e = operation_letter (λ c. c ≡ 0 → ⊥) (zero_false _ refl, (zero_false _ refl, (zero_false _ refl, (zero_false _ refl, (zero_false _ refl, tt))))) r e
+operation_no_blank r e z = no (sym (ap (λ c. one_of c (codes "SRALF")) z) ∙ e)
 
 pub count_no_blank : (r : Record) → is_count r ≡ true → r.letter ≡ 0 → ⊥
-count_no_blank r e = count_letter (λ c. c ≡ 0 → ⊥) (zero_false _ refl) r e
+count_no_blank r e z = no (sym (ap (λ c. eqb c (byte "Q")) z) ∙ e)
 
 -- A letter that may not stand at the start, after the header, after objects or after carries comes in a task.
 pub record Inner (c : ℕ) : Type 0 where
@@ -57,24 +53,16 @@ pub record Inner (c : ℕ) : Type 0 where
   pub objects : may_follow Objects c ≡ false
   pub carries : may_follow Carries c ≡ false
 
+inner : (c : ℕ) → (may_follow Nothing c || (may_follow Header c || may_follow Carries c)) ≡ false → Inner c
+inner c e =
+    let later = or_parts _ _ (or_parts (may_follow Nothing c) _ e).1 in
+    record { nothing = (or_parts (may_follow Nothing c) _ e).0; header = later.0; objects = later.0; carries = later.1 }
+
 pub count_inner : (r : Record) → is_count r ≡ true → Inner r.letter
-count_inner r e = count_letter Inner (record { nothing = refl; header = refl; objects = refl; carries = refl }) r e
+count_inner r e = with_letter (λ x. Inner x.letter) r (byte "Q") (inner _ refl) e
 
 pub operation_inner : (r : Record) → is_operation r ≡ true → Inner r.letter
-operation_inner r e =
-    operation_letter Inner (
-      record { nothing = refl; header = refl; objects = refl; carries = refl },
-      (
-        record { nothing = refl; header = refl; objects = refl; carries = refl },
-        (
-          record { nothing = refl; header = refl; objects = refl; carries = refl },
-          (
-            record { nothing = refl; header = refl; objects = refl; carries = refl },
-            (record { nothing = refl; header = refl; objects = refl; carries = refl }, tt),
-          ),
-        ),
-      ),
-    ) r e
+operation_inner r e = each_operation (λ x. Inner x.letter) r (inner _ refl, (inner _ refl, (inner _ refl, (inner _ refl, (inner _ refl, tt))))) e
 
 after_inner : (p o w t q s : Bool) (c : ℕ) → Inner c
     → may_follow (cond p Header (cond o Objects (cond w Carries (cond t Task (cond q Counts (cond s Operations Nothing)))))) c ≡ true
@@ -88,20 +76,20 @@ after_inner false false false false false true c n e = inr (inr (refl, e))
 after_inner false false false false false false c n e = no (sym n.nothing ∙ e)
 
 module _ (rs : List Record) (good : (i : ℕ) → i < length rs → ((get_or rs i blank).letter ≡ 0 → ⊥) → Good (take i rs) (get_or rs i blank)) where
-  letter_before : (i : ℕ) → i < length rs → last_letter (take (i + 1) rs) ≡ (get_or rs i blank).letter
+  letter_before : (i : ℕ) → i < length rs → last_letter (take (suc i) rs) ≡ (get_or rs i blank).letter
   letter_before i h =
-      let size : length (take (i + 1) rs) - 1 ≡ i = omega (arith, length-take-le (i + 1) rs (omega arith)) in
-      ap (λ n. (get_or (take (i + 1) rs) n blank).letter) size ∙ ap (λ (r : Record). r.letter) (get_or-take (i + 1) rs i blank (omega arith))
+      let size : length (take (suc i) rs) - 1 ≡ i = omega (arith, length-take-le (suc i) rs (omega arith)) in
+      ap (λ n. (get_or (take (suc i) rs) n blank).letter) size ∙ ap (λ (r : Record). r.letter) (get_or-take (suc i) rs i blank (omega arith))
 
   -- what stands before a record of a task
-  comes_after : (i : ℕ) → i + 1 < length rs → ((get_or rs (i + 1) blank).letter ≡ 0 → ⊥) → Inner (get_or rs (i + 1) blank).letter
-      → (is_task (get_or rs i blank) ≡ true) ⊎ ((is_count (get_or rs i blank) ≡ true) ⊎ ((is_operation (get_or rs i blank) ≡ true) × (may_follow Operations (get_or rs (i + 1) blank).letter ≡ true)))
+  comes_after : (i : ℕ) → suc i < length rs → ((get_or rs (suc i) blank).letter ≡ 0 → ⊥) → Inner (get_or rs (suc i) blank).letter
+      → (is_task (get_or rs i blank) ≡ true) ⊎ ((is_count (get_or rs i blank) ≡ true) ⊎ ((is_operation (get_or rs i blank) ≡ true) × (may_follow Operations (get_or rs (suc i) blank).letter ≡ true)))
   comes_after i h written n =
-      let follows : may_follow (section_of (get_or rs i blank).letter) (get_or rs (i + 1) blank).letter ≡ true =
-      subst (λ c. may_follow (section_of c) (get_or rs (i + 1) blank).letter ≡ true) (letter_before i (omega arith)) (good (i + 1) h written).follows in
+      let follows : may_follow (section_of (get_or rs i blank).letter) (get_or rs (suc i) blank).letter ≡ true =
+      subst (λ c. may_follow (section_of c) (get_or rs (suc i) blank).letter ≡ true) (letter_before i (omega arith)) (good (suc i) h written).follows in
       let c = (get_or rs i blank).letter in
       after_inner (eqb c (byte "P")) (one_of c (codes "CK")) (eqb c (byte "W")) (is_task (get_or rs i blank)) (is_count (get_or rs i blank)) (is_operation (get_or rs i blank))
-      (get_or rs (i + 1) blank).letter n follows
+      (get_or rs (suc i) blank).letter n follows
 
   pub not_first : Inner (get_or rs 0 blank).letter → ((get_or rs 0 blank).letter ≡ 0 → ⊥) → 0 < length rs → ⊥
   not_first n written h = false≢true (sym n.nothing ∙ (good 0 h written).follows)
@@ -113,7 +101,7 @@ module _ (rs : List Record) (good : (i : ℕ) → i < length rs → ((get_or rs 
   abbrev start_at : ℕ → ℕ
   start_at k = first_operation rs (get_or (tasks_of rs) k no_task)
 
-  task-place : (i : ℕ) → i < length rs → is_task (get_or rs i blank) ≡ true → (tasks_by rs i < length (tasks_of rs)) × (line_at (tasks_by rs i) ≡ i + 1)
+  task-place : (i : ℕ) → i < length rs → is_task (get_or rs i blank) ≡ true → (tasks_by rs i < length (tasks_of rs)) × (line_at (tasks_by rs i) ≡ suc i)
   task-place i h e =
       let row = ap (λ (t : TaskRow). t.line) (row_here rs i h e) in
       (omega (arith, by_task rs i h e, by_whole rs (i + 1) (omega arith)), omega (arith, row))
@@ -122,53 +110,40 @@ module _ (rs : List Record) (good : (i : ℕ) → i < length rs → ((get_or rs 
   count-place : (i : ℕ) → i < length rs → is_count (get_or rs i blank) ≡ true → (k : ℕ) × (c : ℕ) × (k < length (tasks_of rs)) × (c < prefix_len is_count (drop (line_at k) rs)) × (line_at k + c ≡ i)
   count-place zero h e = absurd (not_first (count_inner (get_or rs 0 blank) e) (count_no_blank (get_or rs 0 blank) e) h)
   count-place (suc j) h e =
-      let next : suc j ≡ j + 1 = omega arith in
-      let q : is_count (get_or rs (j + 1) blank) ≡ true = subst (λ n. is_count (get_or rs n blank) ≡ true) next e in
       ⊎_elim
       (λ (task : is_task (get_or rs j blank) ≡ true).
       let t = task-place j (omega arith) task in
-      let more = prefix_len-drop_yes is_count rs (j + 1) blank (omega arith) q in
+      let more = prefix_len-drop_yes is_count rs (suc j) blank (omega arith) e in
       (tasks_by rs j, 0, t.0, omega (arith, more, ap (λ n. prefix_len is_count (drop n rs)) t.1), omega (arith, t.1)))
       (⊎_elim
       (λ (count : is_count (get_or rs j blank) ≡ true).
       let r = count-place j (omega arith) count in
-      let here : line_at r.0 + (r.1 + 1) ≡ j + 1 = omega (arith, r.4) in
-      let is : is_count (get_or (drop (line_at r.0) rs) (r.1 + 1) blank) ≡ true =
-      ap is_count (get_or-drop (line_at r.0) rs (r.1 + 1) blank ∙ ap (λ n. get_or rs n blank) here) ∙ q in
-      let more = leading_on is_count blank (drop (line_at r.0) rs) (r.1 + 1) (omega (arith, r.3)) (omega (arith, length-drop (line_at r.0) rs, r.4)) is in
+      let more = leading_on is_count blank rs (line_at r.0) (r.1 + 1) (suc j) (omega (arith, r.4)) (omega (arith, r.3)) (omega arith) e in
       (r.0, r.1 + 1, r.2, more, omega (arith, r.4)))
-      (λ (other : (is_operation (get_or rs j blank) ≡ true) × (may_follow Operations (get_or rs (j + 1) blank).letter ≡ true)).
-      no (sym (count_letter (λ c. may_follow Operations c ≡ false) refl (get_or rs (j + 1) blank) q) ∙ other.1)))
-      (comes_after j (omega arith) (count_no_blank (get_or rs (j + 1) blank) q) (count_inner (get_or rs (j + 1) blank) q))
+      (λ (other : (is_operation (get_or rs j blank) ≡ true) × (may_follow Operations (get_or rs (suc j) blank).letter ≡ true)).
+      no (sym (with_letter (λ x. may_follow Operations x.letter ≡ false) (get_or rs (suc j) blank) (byte "Q") refl e) ∙ other.1)))
+      (comes_after j (omega arith) (count_no_blank (get_or rs (suc j) blank) e) (count_inner (get_or rs (suc j) blank) e))
 
   -- an operation stands among those of a task
   pub operation-place : (i : ℕ) → i < length rs → is_operation (get_or rs i blank) ≡ true
       → (k : ℕ) × (p : ℕ) × (k < length (tasks_of rs)) × (p < prefix_len is_operation (drop (start_at k) rs)) × (start_at k + p ≡ i)
   operation-place zero h e = absurd (not_first (operation_inner (get_or rs 0 blank) e) (operation_no_blank (get_or rs 0 blank) e) h)
   operation-place (suc j) h e =
-      let next : suc j ≡ j + 1 = omega arith in
-      let o : is_operation (get_or rs (j + 1) blank) ≡ true = subst (λ n. is_operation (get_or rs n blank) ≡ true) next e in
-      let first = prefix_len-drop_yes is_operation rs (j + 1) blank (omega arith) o in
+      let first = prefix_len-drop_yes is_operation rs (suc j) blank (omega arith) e in
       ⊎_elim
       (λ (task : is_task (get_or rs j blank) ≡ true).
       let t = task-place j (omega arith) task in
-      let none = prefix_len-drop_no is_count rs (j + 1) blank (omega arith) (operation_no_count (get_or rs (j + 1) blank) o) in
-      let start : start_at (tasks_by rs j) ≡ j + 1 = omega (arith, none, t.1, ap (λ n. prefix_len is_count (drop n rs)) t.1) in
+      let none = prefix_len-drop_no is_count rs (suc j) blank (omega arith) (operation_no_count (get_or rs (suc j) blank) e) in
+      let start : start_at (tasks_by rs j) ≡ suc j = omega (arith, none, t.1, ap (λ n. prefix_len is_count (drop n rs)) t.1) in
       (tasks_by rs j, 0, t.0, omega (arith, first, ap (λ n. prefix_len is_operation (drop n rs)) start), omega (arith, start)))
       (⊎_elim
       (λ (count : is_count (get_or rs j blank) ≡ true).
       let r = count-place j (omega arith) count in
-      let here : line_at r.0 + (r.1 + 1) ≡ j + 1 = omega (arith, r.4) in
-      let stop : is_count (get_or (drop (line_at r.0) rs) (r.1 + 1) blank) ≡ false =
-      ap is_count (get_or-drop (line_at r.0) rs (r.1 + 1) blank ∙ ap (λ n. get_or rs n blank) here) ∙ operation_no_count (get_or rs (j + 1) blank) o in
-      let size = leading_stops is_count blank (drop (line_at r.0) rs) (r.1 + 1) (omega (arith, r.3)) stop in
-      let start : start_at r.0 ≡ j + 1 = omega (arith, size, r.4) in
+      let size = leading_stops is_count blank rs (line_at r.0) (r.1 + 1) (suc j) (omega (arith, r.4)) (omega (arith, r.3)) (operation_no_count (get_or rs (suc j) blank) e) in
+      let start : start_at r.0 ≡ suc j = omega (arith, size, r.4) in
       (r.0, 0, r.2, omega (arith, first, ap (λ n. prefix_len is_operation (drop n rs)) start), omega (arith, start)))
-      (λ (operation : (is_operation (get_or rs j blank) ≡ true) × (may_follow Operations (get_or rs (j + 1) blank).letter ≡ true)).
+      (λ (operation : (is_operation (get_or rs j blank) ≡ true) × (may_follow Operations (get_or rs (suc j) blank).letter ≡ true)).
       let r = operation-place j (omega arith) operation.0 in
-      let here : start_at r.0 + (r.1 + 1) ≡ j + 1 = omega (arith, r.4) in
-      let is : is_operation (get_or (drop (start_at r.0) rs) (r.1 + 1) blank) ≡ true =
-      ap is_operation (get_or-drop (start_at r.0) rs (r.1 + 1) blank ∙ ap (λ n. get_or rs n blank) here) ∙ o in
-      let more = leading_on is_operation blank (drop (start_at r.0) rs) (r.1 + 1) (omega (arith, r.3)) (omega (arith, length-drop (start_at r.0) rs, r.4)) is in
+      let more = leading_on is_operation blank rs (start_at r.0) (r.1 + 1) (suc j) (omega (arith, r.4)) (omega (arith, r.3)) (omega arith) e in
       (r.0, r.1 + 1, r.2, more, omega (arith, r.4))))
-      (comes_after j (omega arith) (operation_no_blank (get_or rs (j + 1) blank) o) (operation_inner (get_or rs (j + 1) blank) o))
+      (comes_after j (omega arith) (operation_no_blank (get_or rs (suc j) blank) e) (operation_inner (get_or rs (suc j) blank) e))

@@ -28,17 +28,13 @@ shows_cond : (b : Bool) (v : Result (List Record) ReadFault) (f : ReadFault) (sh
 shows_cond true v f sheet s = (refl, s)
 shows_cond false v f sheet s = absurd s
 
-lines-read : (v : Result (List Record) ReadFault) (sheet : List Record) → Shows (and_then v ended) sheet → (rs : List Record) × (v ≡ Ok rs) × Shows (ended rs) sheet
-lines-read (Ok rs) sheet s = (rs, refl, s)
-lines-read (Err f) sheet s = absurd s
+shows_step : {A : Type 0} (v : Result A ReadFault) (f : A → Result (List Record) ReadFault) (sheet : List Record) → Shows (and_then v f) sheet → (x : A) × (v ≡ Ok x) × Shows (f x) sheet
+shows_step (Ok x) f sheet s = (x, refl, s)
+shows_step (Err e) f sheet s = absurd s
 
 ended-shown : (rs sheet : List Record) → Shows (ended rs) sheet → (finished rs (tasks_of rs) ≡ Ok tt) × (sheet ≡ sheet_of (length sheet) rs)
 unfolding ended
-ended-shown rs sheet s = given (finished rs (tasks_of rs)) s
-  where
-    given : (w : Result (Unit {0}) ReadFault) → Shows (and_then w (λ _. Ok rs)) sheet → (w ≡ Ok tt) × (sheet ≡ sheet_of (length sheet) rs)
-    given (Ok x) t = (refl, t)
-    given (Err f) t = absurd t
+ended-shown rs sheet s = let t = shows_step (finished rs (tasks_of rs)) (λ _. Ok rs) sheet s in (t.1, t.2)
 
 -- the first 800 records: those of the lines, and blank ones
 first-records : (rs sheet : List Record) → length rs ≤ 800 → 800 ≤ length sheet → sheet ≡ sheet_of (length sheet) rs → records_in sheet ≡ rs ++ replicate (800 - length rs) blank
@@ -66,7 +62,7 @@ lines-shown o text sheet s =
     let a = shows_cond (leb (length text) 32768) _ _ sheet s in
     let b = shows_cond (leb 800 (length sheet)) _ _ sheet a.1 in
     let long : 800 ≤ length sheet = leb-true _ _ b.0 in
-    let c = lines-read (read_rest o text [] (lines text)) sheet b.1 in
+    let c = shows_step (read_rest o text [] (lines text)) ended sheet b.1 in
     let rs : List Record = c.0 in
     let d = ended-shown rs sheet c.2 in
     let few = roomy-length rs (all-roomy o text (lines text) rs c.1) in

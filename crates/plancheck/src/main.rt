@@ -18,6 +18,9 @@ fn input(rt: &HostRuntime) -> io::Result<Vec<u8>> {
     Ok(text)
 }
 
+// The lines are the program's own format, so that they are written here, and the library has no Display for them. Text and
+// sheet are the two memories that the library's calls take, so they stay two.
+
 fn report_fault(rt: &HostRuntime, fault: ReadFault) -> io::Result<()> {
     let number = fault.number();
     let line = fault.line();

@@ -74,7 +74,7 @@ fn finish_tasks(tasks: &Tasks) -> Result<(), ReadFault>
     few_threads_and_sends(tasks)
 }
 
-// The faults that only all lines together have.
+// The faults that only all lines together have. The lists are those of the records, as for a line.
 pub fn finish(records: &[Record], lists: &Lists) -> Result<(), ReadFault>
     requires { lists.now ≡ view_of records.now }
     ensures { result ≡ finished records.now (tasks_of records.now) }

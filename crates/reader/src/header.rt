@@ -9,8 +9,6 @@ use text::Lines;
 pub fn is_written_in<O: WrittenOrder>(text: &[u8]) -> bool
     ensures { result ≡ header_is O.WrittenOrder.written.word text.now }
 {
-    match Lines::of(text).next() {
-        Some(line) => line.field(text, 1).bytes(text) == O::header_word().as_slice(),
-        None => false,
-    }
+    Lines::of(text).next().is_some_and(|line| line.field(text, 1).bytes(text)
+        == O::header_word().as_slice())
 }

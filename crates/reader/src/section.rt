@@ -7,7 +7,7 @@ use records::Record;
 
 #[derive(Clone, Copy)]
 pub enum Section {
-    // before the first line
+    // before the first line; a section like the others, since it admits a letter
     Nothing,
     Header,
     // channels and locks
@@ -22,7 +22,7 @@ pub enum Section {
 }
 
 impl Section {
-    // The section in which a record of this letter stands.
+    // The section in which a record of this letter stands. No From: it is a step of `after`, and of no letter elsewhere.
     fn of(letter: char) -> Section
         ensures { result ≡ section_of letter }
     {

@@ -26,6 +26,7 @@ fn fill<O: WrittenOrder>(text: &[u8], sheet: &mut [Record]) -> Result<(), ReadFa
 {
     let mut lists = Lists::new();
     for line in Lines::of(text) {
+        // the lists count the records, so that nothing counts beside them
         let count = lists.len();
         sheet[count] = read_step::<O>(text, &sheet[..count], &mut lists, line)?;
     }

@@ -6,7 +6,8 @@ use reader::read;
 use records::BLANK;
 use records::limits::MOST_LINES;
 
-// The number and the line of the fault that reading the text under RANK gives; 0 and 0 where it gives none.
+// The number and the line of the fault that reading the text under RANK gives; 0 and 0 where it gives none, so that a test
+// is a table of texts and pairs.
 pub fn answer(text: &[u8]) -> (u8, usize) {
     let mut sheet = [BLANK; MOST_LINES];
     match read::<Rank>(text, &mut sheet) {

@@ -88,7 +88,7 @@ impl ReadFault {
         }
     }
 
-    // The layer that refuses.
+    // The layer that refuses: each fault of this enum is of the reader.
     pub fn layer(self) -> Layer
         ensures { result ≡ layer_of self }
     {

@@ -4,8 +4,8 @@ ghost use Rattle.records.specs.Names.{first_named, named};
 
 use crate::rows::{ObjectRow, TaskRow};
 
-// A row with a name: the place of the name in the text is its start and its length. Each row answers it as a pair, which
-// the one lookup takes apart, so that both impls read alike.
+// A row with a name: the place of the name in the text is its start and its length. A rule of the project: each named row
+// answers its place as a pair, and the one lookup takes the pair apart; so the two impls stay.
 pub trait Named {
     ghost spot: { Self → ℕ × ℕ };
 

@@ -39,7 +39,8 @@ pub trait WrittenOrder: WaitOrder {
     fn first_range() -> Range
         ensures { result ≡ written.first };
 
-    // Of the second field, where a level has two.
+    // Of the second field, where a level has two. No Option: FIELDS says whether there is one, and an order of one field names
+    // a range that nothing asks for.
     fn second_range() -> Range
         ensures { result ≡ written.second };
 

@@ -9,7 +9,8 @@ pub enum Kind {
     Lock,
 }
 
-// A declared object: the place of its name, its kind, and the two numbers of its level.
+// A declared object: the place of its name, its kind, and the two numbers of its level, which are no struct of their own: a
+// record has the first in the same field as a count and a word, and an order makes its level from the two as they stand.
 #[derive(Clone, Copy, Default)]
 pub struct ObjectRow {
     pub name: Place,

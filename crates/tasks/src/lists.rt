@@ -1,5 +1,5 @@
 // The lists of what records declare.
-ghost use Rattle.std.specs.Prelude.{◌≡◌, ◌≤◌};
+ghost use Rattle.std.specs.Prelude.{◌≡◌, ◌≤◌, length};
 ghost use Rattle.tasks.specs.Records.{View};
 
 use arrayvec::ArrayVec;
@@ -21,7 +21,7 @@ impl Model for Lists {
 
     ghost view = { λ l. record { objects = l.objects.items; tasks = l.tasks.items; operations = l.operations; lines = l.lines } };
 
-    ghost invariant = { λ l. (l.operations ≤ 512) × (l.lines ≤ 800) };
+    ghost invariant = { λ l. (length l.objects.items ≤ 32) × (length l.tasks.items ≤ 24) × (l.operations ≤ 512) × (l.lines ≤ 800) };
 }
 
 impl Lists {
@@ -29,6 +29,7 @@ impl Lists {
     pub fn len(&self) -> usize
         ensures count { result ≡ self.now.lines }
         ensures few { result ≤ 800 }
+        ensures limits { (length self.now.objects ≤ 32) × (length self.now.tasks ≤ 24) × (self.now.operations ≤ 512) }
     {
         self.lines
     }

@@ -63,7 +63,8 @@ impl<'a> Tasks<'a> {
         &body[..leading_operations(body)]
     }
 
-    // The row of the task with this number.
+    // The row of the task with this number; past the tasks a row of nothing, as the definitions have it, so that a body is
+    // answered for every number.
     fn at(&self, k: usize) -> TaskRow
         ensures { result ≡ slice_index_or self.now.rows.now k no_task }
     {

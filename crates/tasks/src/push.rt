@@ -9,7 +9,8 @@ use arrayvec::ArrayVec;
 use records::limits::{MOST_LINES, MOST_OBJECTS, MOST_OPERATIONS, MOST_TASKS};
 use records::{Cause, Kind, ObjectRow, Record, TaskRow};
 
-// The letters of the lines are the cases here, as in the rules of a plan, and no enum stands between.
+// The letters of the lines are the cases here, as in the rules of a plan, and no enum stands between. The rows are made by
+// private steps and no From, since only the record of the right letter makes one.
 
 fn is_object(row: Record) -> bool
     ensures { result ≡ is_object row }
@@ -102,6 +103,8 @@ impl Lists {
         }
     }
 
+    // The two that follow differ in the list, in what is added, and in what it is made of: one for both would take all three.
+
     // Adds the object that the record declares, if it declares one.
     fn note_object(&mut self, row: Record)
         requires { is_object row ≡ true → length self.old.objects < 32 }
@@ -155,6 +158,7 @@ impl Lists {
     {
         let mut lists = Lists::new();
         for row in records {
+            // a record without room is left out; there is none where the clause speaks
             let _ = lists.push(*row);
         }
         lists

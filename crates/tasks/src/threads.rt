@@ -14,6 +14,9 @@ fn starts(task: usize, row: Record) -> bool
     row.letter == 'F' && row.first < task
 }
 
+// A rule of the project: the count of the threads recurses into the tasks that are started, and so does their numbering,
+// each in its own words; so there are two recursions.
+
 impl Tasks<'_> {
     // The threads of a task, one and those of every task that its F operations name; none where there are more than 64.
     pub fn thread_count(&self, task: usize) -> Option<usize>

@@ -5,17 +5,6 @@ ghost use Rattle.text.specs.Text.{fields, fields_from, nowhere};
 use crate::bytes::first_of;
 use crate::place::{Line, NOWHERE, Place};
 
-// The size of the field that begins at `from`: it ends at its comma, or with the line, and the next one begins after
-// that. `base` is where the line begins in its text.
-fn field_size(base: usize, line: &[u8], from: usize) -> usize
-    requires { from ≤ length line.now }
-    ensures cuts { fields_from base line.now from ≡ (record { start = base + from; size = result }) ∷ fields_from base line.now (from + result + 1) }
-    ensures inside { from + result ≤ length line.now }
-{
-    let rest = &line[from..];
-    first_of(rest, b',').unwrap_or(rest.len())
-}
-
 // The fields of a line that are still to come.
 #[derive(Clone, Copy)]
 pub struct Fields<'a> {
@@ -26,6 +15,18 @@ pub struct Fields<'a> {
     from: usize,
     ghost fits: { base + length line.now < 2 ^ 64 },
     ghost inside: { from ≤ length line.now + 1 },
+}
+
+impl Fields<'_> {
+    // The size of the next field: it ends at its comma, or with the line, and the one after it begins after that.
+    fn size(&self) -> usize
+        requires { self.now.from ≤ length self.now.line.now }
+        ensures cuts { fields_from self.now.base self.now.line.now self.now.from ≡ (record { start = self.now.base + self.now.from; size = result }) ∷ fields_from self.now.base self.now.line.now (self.now.from + result + 1) }
+        ensures inside { self.now.from + result ≤ length self.now.line.now }
+    {
+        let rest = &self.line[self.from..];
+        first_of(rest, b',').unwrap_or(rest.len())
+    }
 }
 
 impl<'a> Iterator for Fields<'a> {
@@ -43,7 +44,7 @@ impl<'a> Iterator for Fields<'a> {
             return None;
         }
         let start = self.base + self.from;
-        let size = field_size(self.base, self.line, self.from);
+        let size = self.size();
         self.from += size + 1;
         Some(Place { start, size })
     }
@@ -71,7 +72,7 @@ impl Line {
     }
 
     // The field with this number, from 0; an empty one where the line has fewer. No Option: a field that is missing is read
-    // like an empty one, which has no form, and whoever asks has counted the fields before.
+    // like an empty one, which has no letter, no form and no word, so that no reader of a field has two cases.
     pub fn field(self, text: &[u8], number: usize) -> Place
         ensures { result ≡ slice_index_or (fields text.now self) number nowhere }
     {

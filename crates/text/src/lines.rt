@@ -1,30 +1,9 @@
 // The lines of a text.
-ghost use Rattle.std.specs.Prelude.{◌≡◌, ◌<◌, length};
-ghost use Rattle.text.specs.Text.{lines, LineAt};
+ghost use Rattle.std.specs.Prelude.{◌≡◌, ◌<◌, [], length, MatchOption};
+ghost use Rattle.text.specs.Text.{lines, lines_from, LineAt};
 
 use crate::bytes::first_of;
 use crate::place::{Line, Place};
-
-// The line that begins at `from`: up to the next byte 10, or to the end of the text.
-fn line_at(text: &[u8], from: usize) -> Line
-    requires { from < length text.now }
-    ensures { LineAt text.now from result }
-{
-    let rest = &text[from..];
-    match first_of(rest, b'\n') {
-        Some(size) => Line {
-            place: Place { start: from, size },
-            ended: true,
-        },
-        None => Line {
-            place: Place {
-                start: from,
-                size: rest.len(),
-            },
-            ended: false,
-        },
-    }
-}
 
 // The lines of a text that are still to come.
 #[derive(Clone, Copy)]
@@ -41,7 +20,50 @@ impl<'a> Lines<'a> {
     pub fn of(text: &'a [u8]) -> Lines<'a>
         ensures { lines_left result ≡ lines text.now }
     {
-        Lines { text, from: 0 }
+        Lines::after(text, 0)
+    }
+
+    // The lines from a place on.
+    pub fn after(text: &'a [u8], from: usize) -> Lines<'a>
+        ensures { lines_left result ≡ lines_from text.now from }
+    {
+        Lines { text, from }
+    }
+
+    // The next line: up to the next byte 10, or to the end of the text.
+    fn line(&self) -> Line
+        requires { self.now.from < length self.now.text.now }
+        ensures { LineAt self.now.text.now self.now.from result }
+    {
+        let start = self.from;
+        let rest = &self.text[start..];
+        match first_of(rest, b'\n') {
+            Some(size) => Line {
+                place: Place { start, size },
+                ended: true,
+            },
+            None => Line {
+                place: Place {
+                    start,
+                    size: rest.len(),
+                },
+                ended: false,
+            },
+        }
+    }
+}
+
+impl Lines<'_> {
+    ghost use Rattle.text.specs.Left.{lines_left};
+
+    // The next line, or none where the text has ended; it is not gone past.
+    pub fn peek(&self) -> Option<Line>
+        ensures { MatchOption result (lines_left self.now ≡ []) (LineAt self.now.text.now self.now.from) }
+    {
+        if self.from >= self.text.len() {
+            return None;
+        }
+        Some(self.line())
     }
 }
 
@@ -55,12 +77,9 @@ impl<'a> Iterator for Lines<'a> {
 
     ghost remaining = { item_count lines_left };
 
-    // The next line begins after the byte 10 of this one.
+    // The line after this one begins after its byte 10.
     fn next(&mut self) -> Option<Line> {
-        if self.from >= self.text.len() {
-            return None;
-        }
-        let line = line_at(self.text, self.from);
+        let line = self.peek()?;
         self.from = line.place.start + line.place.size + 1;
         Some(line)
     }

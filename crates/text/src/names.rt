@@ -11,5 +11,5 @@ const NAME_BYTES: usize = 12;
 pub fn is_name(bytes: &[u8]) -> bool
     ensures { result ≡ is_name bytes.now }
 {
-    bytes.len() >= 1 && bytes.len() <= NAME_BYTES && Class::Letter.has_all(bytes)
+    (1..=NAME_BYTES).contains(&bytes.len()) && Class::Letter.has_all(bytes)
 }

@@ -19,12 +19,9 @@ fn is_natural(field: &[u8]) -> bool
 fn value(digits: &[u8]) -> u64
     ensures { result ≡ min (value_of digits.now) enough }
 {
-    // A loop and no fold: a closure does not know that its accumulator stays small, so the product has no bound there.
-    let mut n = 0;
-    for d in digits {
-        n = (n * 10 + d.saturating_sub(b'0') as u64).min(ENOUGH);
-    }
-    n
+    digits.iter().fold(0, |n: u64, d| {
+        (n.min(ENOUGH) * 10 + d.saturating_sub(b'0') as u64).min(ENOUGH)
+    })
 }
 
 // The number that the field writes without a sign, cut down to ENOUGH.
@@ -33,6 +30,8 @@ fn read_natural(field: &[u8]) -> Option<u64>
 {
     is_natural(field).then(|| value(field))
 }
+
+// The two that follow differ in the sign and in what they refuse, as their clauses say, so they are no one function.
 
 fn not_below_zero(field: &[u8], range: Range) -> Option<i32>
     ensures { result ≡ within range.low range.high (above (natural field.now)) }

@@ -9,6 +9,7 @@ pub struct Place {
     pub size: usize,
 }
 
+// A constant, for other constants to name it.
 pub const NOWHERE: Place = Place { start: 0, size: 0 };
 
 // The place of a line, and whether byte 10 ends it. No Option: a line that is not ended has a place too, and is refused there.

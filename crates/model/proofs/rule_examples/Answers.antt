@@ -1,5 +1,7 @@
-use Rattle.model.proofs.Examples.{examples}
+use Rattle.std.proofs.Common.{rules}
+use Rattle.model.specs.Program.{same}
 use Rattle.model.proofs.rule_examples.Goals as goal
 
 pub returns : goal.returns
-returns c = examples
+unfolding same
+returns c = search rules
