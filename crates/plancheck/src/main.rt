@@ -1,13 +1,14 @@
 // Reads a plan from standard input, and writes what the library says of it.
 #![tactic(auto)]
 
-use clearer::{Rank, Zone};
+use clearer::{Rank, Zone, clear};
 use plan::Plan;
 use reader::{check, is_written_in, read};
 use records::limits::{MOST_BYTES, MOST_LINES};
-use records::{BLANK, ReadFault, Record, WrittenOrder};
-use std::io;
+use records::{BLANK, ReadFault, Record, WaitOrder, WrittenOrder};
+use rules::Account;
 use std::io::Read;
+use std::{io, str};
 
 // The text from standard input. One byte more than a plan may have is enough to refuse any longer input.
 fn input(rt: &HostRuntime) -> io::Result<Vec<u8>> {
@@ -27,12 +28,27 @@ fn report_fault(rt: &HostRuntime, fault: ReadFault) -> io::Result<()> {
     println!(rt; "READING,{number},{line}")
 }
 
-// What is written of a plan that was read. Its clearing and its trial are to be written after its counts.
-fn report_plan(rt: &HostRuntime, plan: &Plan) -> io::Result<()> {
+// Whether the plan is cleared, or its first breach, with the object by name. A name has capitals and digits alone.
+fn report_clearing<O: WaitOrder>(rt: &HostRuntime, plan: &Plan) -> io::Result<()> {
+    let mut account = Account::empty();
+    match clear::<O>(plan, &mut account) {
+        Ok(()) => println!(rt; "CLEARED"),
+        Err(fault) => {
+            let number = fault.number();
+            let line = fault.line;
+            let object = str::from_utf8(plan.name_of(fault.object)).unwrap_or("");
+            println!(rt; "CLEARING,{number},{line},{object}")
+        }
+    }
+}
+
+// What is written of a plan that was read: its counts, and its clearing. Its trial is to be written after that.
+fn report_plan<O: WaitOrder>(rt: &HostRuntime, plan: &Plan) -> io::Result<()> {
     let threads = plan.threads();
     let moves = plan.moves();
     let sends = plan.sends();
-    println!(rt; "PLAN,{threads},{moves},{sends}")
+    println!(rt; "PLAN,{threads},{moves},{sends}")?;
+    report_clearing::<O>(rt, plan)
 }
 
 // Makes the plan of a sheet that was read, and reports it.
@@ -43,7 +59,7 @@ fn report_sheet<'a, O: WrittenOrder>(
 ) -> io::Result<()> {
     match check::<O>(text, sheet) {
         Err(fault) => report_fault(rt, fault),
-        Ok(()) => report_plan(rt, &Plan::new::<O>(text, sheet)),
+        Ok(()) => report_plan::<O>(rt, &Plan::new::<O>(text, sheet)),
     }
 }
 

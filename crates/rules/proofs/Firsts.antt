@@ -1,12 +1,22 @@
 -- A search that counts upward finds the first number that passes.
-use Rattle.std.proofs.Common.{◌≡◌, ℕ, ◌<◌, ◌≤◌, Bool, true, false, Some, None, Option, sym, arith}
+use Rattle.std.proofs.Common.{◌≡◌, ℕ, zero, suc, ◌+◌, ◌<◌, ◌≤◌, Bool, true, false, Some, None, Option, sym, ap, ◌∙◌, subst, arith}
 use Rattle.std.specs.Prelude.{MatchOption}
-use Rattle.model.specs.Rules.{first}
-use Rattle.model.proofs.Searches.{false_is, first-is, first-none, true_is}
+use Rattle.std.proofs.lemmas.Bool.{cond-true, cond-false}
+use Rattle.model.specs.Rules.{first, first_number_from}
+use Rattle.model.proofs.Searches.{false_is, first-none}
+use native.Mathlib.Decide.{ℕ_discrete}
+
+-- the search finds x where x passes and none before it does
+first-is : (p : ℕ → Bool) (i k x : ℕ) → i ≤ x → x < i + k → p x ≡ true → ((y : ℕ) → i ≤ y → y < x → p y ≡ false) → first_number_from p i k ≡ Some x
+first-is p i zero x l m h none = absurd (omega arith)
+first-is p i (suc k) x l m h none = elim (ℕ_discrete x i) [
+  | yes f ↦ cond-true (p i) _ _ (subst (λ (y : ℕ). p y ≡ true) f h) ∙ ap Some (sym f)
+  | no nf ↦ cond-false (p i) _ _ (none i (omega arith) (omega arith)) ∙ first-is p (suc i) k x (omega arith) (omega arith) h (λ y a b. none y (omega arith) b)
+]
 
 module _ (p : ℕ → Bool) (n : ℕ) where
   found_first : (x : ℕ) → x < n → p x ≡ true → ((k : ℕ) → k < x → p k ≡ false) → Some x ≡ first p n
-  found_first x l h none = sym (first-is p 0 n x (omega arith) (omega arith) (true_is _ h) (λ y _ m. false_is _ (none y m)))
+  found_first x l h none = sym (first-is p 0 n x (omega arith) (omega arith) h (λ y _ m. none y m))
 
   found_none : ((k : ℕ) → k < n → p k ≡ false) → None ≡ first p n
   found_none none = sym (first-none p 0 n (λ y _ m. false_is _ (none y (omega arith))))
