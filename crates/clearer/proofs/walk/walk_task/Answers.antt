@@ -1,19 +1,21 @@
 use Rattle.std.proofs.Common.{◌≡◌, ◌+◌, ◌≤◌, suc, Err, length, sym, ap, ◌∙◌, arith, rules}
 use Rattle.plan.specs.Plans.{records_in}
 use Rattle.plan.specs.Program.{program_of}
-use Rattle.clearer.specs.Breach.{at_line, step_breach}
+use Rattle.clearer.specs.Breach.{at_line, step_breach, task_breach}
 use Rattle.clearer.specs.Faults.{breach_seen, verdict_of}
 use Rattle.clearer.proofs.Hits.{left_all, left_found, left_more, left_none}
 use Rattle.clearer.proofs.Walks.{judged_walk, walked-first, walked_next}
 use Rattle.clearer.proofs.walk.walk_task.Goals as goal
 
 pub loop-place-init : goal.loop-place-init
+unfolding task_breach
 loop-place-init g c =
     let P = program_of g.O.WaitOrder.made (records_in c.args.plan.now.sheet.now) in
     let o = c.opening_of.ensures in
     (left_all (step_breach P g.O.WaitOrder.below c.args.task) (suc (length (P.ops c.args.task))), λ l. walked-first P c.meaning.ensures.narrow c.args.task c.requires c.opening_of.result o.whole o.locks o.counts)
 
 pub returns-in_err-walk_step : goal.returns-in_err-walk_step
+unfolding task_breach
 returns-in_err-walk_step g c =
     let P = program_of g.O.WaitOrder.made (records_in c.args.plan.now.sheet.now) in
     let f = step_breach P g.O.WaitOrder.below c.args.task in
@@ -28,6 +30,7 @@ returns-in_err-walk_step g c =
     ∙ left_found f p (suc (length (P.ops c.args.task))) (breach_seen fault) (omega (arith, inside)) (sym (c.in_err-walk_step.ensures.found ∙ ap (at_line (P.line c.args.task p)) judged)))
 
 pub loop-place-preserved : goal.loop-place-preserved
+unfolding task_breach
 loop-place-preserved g c =
     let P = program_of g.O.WaitOrder.made (records_in c.args.plan.now.sheet.now) in
     let f = step_breach P g.O.WaitOrder.below c.args.task in
@@ -43,6 +46,7 @@ loop-place-preserved g c =
     )
 
 pub returns-in_ok-walk_step : goal.returns-in_ok-walk_step
+unfolding task_breach
 returns-in_ok-walk_step g c =
     let P = program_of g.O.WaitOrder.made (records_in c.args.plan.now.sheet.now) in
     let f = step_breach P g.O.WaitOrder.below c.args.task in
