@@ -76,3 +76,15 @@ module _ (f : ℕ → Option Breach) where
   pub hit : (p n : ℕ) (b : Breach) → first_of f p n ≡ Some b → Hit p n b
   hit p zero b e = not_none (sym e)
   hit p (suc n) b e = hit_by p n b _ refl (λ g. hit (suc p) n b g) e
+
+  -- a breach of number k, with none before it
+  pub found_first : (n k : ℕ) (b : Breach) → ((j : ℕ) → j < k → None ≡ f j) → k < n → f k ≡ Some b → first_of f 0 n ≡ Some b
+  found_first n k b none inside here = found_from 0 n k b (λ j _ l. none j l) (omega arith) (omega arith) here
+    where
+      found_from : (p n k : ℕ) (b : Breach) → ((j : ℕ) → p ≤ j → j < k → None ≡ f j) → p ≤ k → k < p + n → f k ≡ Some b → first_of f p n ≡ Some b
+      found_from p zero k b none low high here = absurd (omega arith)
+      found_from p (suc n) k b none low high here =
+          ⊎_elim (λ (same : p ≡ k). ap (λ r. or_else r (first_of f (suc p) n)) (subst (λ q. f q ≡ Some b) (sym same) here))
+          (λ (other : p ≡ k → ⊥).
+          ap (λ r. or_else r (first_of f (suc p) n)) (sym (none p (omega arith) (omega arith))) ∙ found_from (suc p) n k b (λ j l m. none j (omega arith) m) (omega arith) (omega arith) here)
+          (cases_eq p k)

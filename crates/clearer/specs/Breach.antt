@@ -28,11 +28,11 @@ module _ {Level Message : Type 0} (B : Program Level Message) (below : Level →
   step_breach k p = at_line (B.line k p) (walk_offence B below k p)
 
   -- the first one of task k: of its operations, and its closing
-  abbrev pub task_breach : ℕ → Option Breach
+  unfoldable pub task_breach : ℕ → Option Breach
   task_breach k = first_of (step_breach k) 0 (suc (length (B.ops k)))
 
   -- the first one of all tasks
-  abbrev pub first_breach : Option Breach
+  unfoldable pub first_breach : Option Breach
   first_breach = first_of task_breach 0 B.threads
 
   -- The breach is the first: every step of the tasks before this one is legal, so is every step of this task before

@@ -3,4 +3,3 @@ pub mod Samples
 pub mod Breach
 pub mod Verdicts
 pub mod Faults
-pub mod Walked

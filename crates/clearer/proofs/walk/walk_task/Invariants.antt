@@ -2,7 +2,7 @@ use Rattle.std.proofs.Common.{◌≡◌, suc, ◌-◌, ◌≤◌, length}
 use Rattle.plan.specs.Plans.{records_in}
 use Rattle.plan.specs.Program.{program_of}
 use Rattle.clearer.specs.Breach.{first_of, step_breach, task_breach}
-use Rattle.clearer.specs.Walked.{Walked}
+use Rattle.clearer.proofs.Walks.{Walked}
 use Rattle.clearer.proofs.walk.walk_task.Given as goal
 
 -- what is left of the task gives the answer, and the account is that of the walk
