@@ -1,15 +1,14 @@
 -- The sample plans and the sample faults of the documents, shown of the definitions themselves.
-use Rattle.std.specs.Prelude.{◌≡◌, ℕ, Bool, true, false, ◌&&◌, List, [], ◌∷◌, length, Ok, Err, codes, Result, ◌==◌}
+use Rattle.std.specs.Prelude.{◌≡◌, ℕ, Bool, true, false, ◌&&◌, List, [], ◌∷◌, Ok, Err, codes, Result, ◌==◌}
 use Prim.Native.String.{String}
 use Rattle.clearer.specs.Orders.{rank_written, zone_written}
+use Rattle.clearer.specs.Verdicts.{counts_of}
 use Rattle.records.specs.declared.fault.ReadFault.{ReadFault}
 use Rattle.records.specs.declared.record.Record.{Record}
 use Rattle.records.specs.Faults.{line_of, number_of}
 use Rattle.records.specs.Order.{Written}
 use Rattle.reader.specs.Reading.{reading}
-use Rattle.tasks.specs.Records.{tasks_of}
 use Rattle.text.specs.Text.{every}
-use Rattle.tasks.specs.Threads.{moves_in, sends_in, threads_in}
 
 -- a text that is read, and what it counts
 pub record Sample : Type 0 where
@@ -27,7 +26,7 @@ pub record Refusal : Type 0 where
   pub line : ℕ
 
 abbrev pub counts : Sample → Result (List Record) ReadFault → Bool
-counts s (Ok rs) = length (threads_in rs (tasks_of rs)) == s.threads && (moves_in rs (tasks_of rs) == s.moves && sends_in rs (tasks_of rs) == s.sends)
+counts s (Ok rs) = counts_of rs s.threads s.moves s.sends
 counts s (Err f) = false
 
 abbrev pub refuses : Refusal → Result (List Record) ReadFault → Bool
@@ -46,22 +45,9 @@ plan order text threads moves sends = record { order = order; text = text; threa
 abbrev pub fault : Written → String → ℕ → ℕ → Refusal
 fault order text number line = record { order = order; text = text; number = number; line = line }
 
+-- a plan whose tasks start several threads; the marked plans are counted with their verdicts
 abbrev pub plans : List Sample
-plans =
-    plan rank_written "P,RANK\nC,LOAD,20\nC,DONE,10\nT,HOIST\nQ,LOAD,1\nQ,DONE,-1\nR,LOAD\nS,DONE,0\nT,MAIN\nF,HOIST\nS,LOAD,7\nR,DONE\n" 2 7 2
-    ∷ plan rank_written "P,RANK\nC,LOAD,10\nC,DONE,20\nT,HOIST\nQ,LOAD,1\nQ,DONE,-1\nR,LOAD\nS,DONE,0\nT,MAIN\nF,HOIST\nS,LOAD,7\nR,DONE\n" 2 7 2
-    ∷ plan rank_written "P,RANK\nC,LOAD,10\nC,DONE,10\nT,HOIST\nQ,LOAD,1\nQ,DONE,-1\nR,LOAD\nS,DONE,0\nT,MAIN\nF,HOIST\nS,LOAD,7\nR,DONE\n" 2 7 2
-    ∷ plan rank_written "P,RANK\nT,MAIN\n" 1 1 0
-    ∷ plan rank_written "P,RANK\nC,LOAD,5\nT,MAIN\nS,LOAD,1\nR,LOAD\n" 1 3 1
-    ∷ plan rank_written "P,RANK\nC,LOAD,5\nT,MAIN\nR,LOAD\n" 1 2 0
-    ∷ plan rank_written "P,RANK\nC,LOAD,5\nW,LOAD,LOAD,1\nT,MAIN\nS,LOAD,1\nR,LOAD\n" 1 3 1
-    ∷ plan rank_written "P,RANK\nK,AXIS,5\nT,MAIN\nA,AXIS\nA,AXIS\n" 1 3 0
-    ∷ plan rank_written "P,RANK\nK,AXIS,5\nT,MAIN\nA,AXIS\n" 1 2 0
-    ∷ plan rank_written "P,RANK\nK,AXIS,5\nT,MAIN\nL,AXIS\n" 1 2 0
-    ∷ plan rank_written "P,RANK\nC,LOAD,5\nT,HOIST\nQ,LOAD,-1\nT,MAIN\nF,HOIST\n" 2 3 0
-    ∷ plan zone_written "P,ZONE\nK,LEFT,1,5\nK,RIGHT,2,9\nT,MAIN\nA,LEFT\nA,RIGHT\nL,RIGHT\nL,LEFT\n" 1 5 0
-    ∷ plan rank_written "P,RANK\nC,X,1\nT,A\nS,X,1\nT,B\nF,A\nF,A\nT,MAIN\nF,B\nF,A\n" 5 12 3
-    ∷ []
+plans = plan rank_written "P,RANK\nC,X,1\nT,A\nS,X,1\nT,B\nF,A\nF,A\nT,MAIN\nF,B\nF,A\n" 5 12 3 ∷ []
 
 abbrev pub refusals : List Refusal
 refusals =

@@ -2,12 +2,13 @@
 ghost use Rattle.clearer.specs.Samples.{Samples};
 ghost use Rattle.clearer.specs.Verdicts.{Verdicts};
 
-// Each sample text is read and counts, or is refused, as the documents say: shown of the definitions.
+// A sample text is read and counts, and others are refused, as the documents say: shown of the definitions.
 pub fn samples_hold()
     ensures { Samples }
 {}
 
-// Each sample plan is cleared, or has the first breach that the documents say: shown of the definitions.
+// Each marked plan counts what the documents say, and is cleared or has the first breach that they say: shown of the
+// definitions, by one table.
 pub fn verdicts_hold()
     ensures { Verdicts }
 {}

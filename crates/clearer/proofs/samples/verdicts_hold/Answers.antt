@@ -7,4 +7,4 @@ use Rattle.clearer.proofs.samples.verdicts_hold.Goals as goal
 
 pub returns : goal.returns
 unfolding first_breach task_breach same ended read_next crew crew_within
-returns c = (refl, refl)
+returns c = refl
