@@ -19,10 +19,12 @@ impl WaitOrder for Rank {
 
     ghost transitive = { Prim.search rules };
 
+    // The order's own, as the trait asks, and no From.
     fn level(number: i32, _extra: i32) -> i32 {
         number
     }
 
+    // The order's own, with its laws above, and no derived order.
     fn below(x: &i32, y: &i32) -> bool {
         *x < *y
     }

@@ -20,6 +20,7 @@ impl WaitOrder for Zone {
 
     ghost transitive = { Prim.search rules };
 
+    // The order's own, as the trait asks, and no From.
     fn level(number: i32, extra: i32) -> ZoneLevel {
         ZoneLevel {
             zone: number,
@@ -27,6 +28,7 @@ impl WaitOrder for Zone {
         }
     }
 
+    // The order's own, with its laws above, and no derived order.
     fn below(x: &ZoneLevel, y: &ZoneLevel) -> bool {
         x.zone == y.zone && x.rank < y.rank
     }

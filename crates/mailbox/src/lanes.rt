@@ -10,6 +10,7 @@ use crate::ring::Ring;
 #[derive(Drop)]
 pub struct Lanes<'a, T: Copy> {
     pub(crate) memory: &'a mut [T],
+    // the length of the memory by 32, divided once
     pub(crate) size: usize,
     pub(crate) rings: [Ring; CHANNELS],
     ghost cut: { size ≡ length memory.now / 32 },

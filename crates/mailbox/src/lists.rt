@@ -62,6 +62,7 @@ impl<L: Lists> Mailbox for L {
         self.free(channel)
     }
 
+    // A bool, as the trait has it: whether the message was taken.
     fn put(&mut self, channel: usize, message: L::Message) -> bool
         ensures answer { PutAnswer L.kind self.old channel message result self.new }
         ensures memory { L.lent self.new ≡ L.lent self.old }

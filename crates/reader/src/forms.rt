@@ -86,7 +86,7 @@ impl Known<'_> {
         }
     }
 
-    // The two numbers of a level.
+    // The two numbers of a level, as a record keeps them.
     pub fn level_at<O: WrittenOrder>(&self) -> Result<(i32, i32), Cause>
         ensures { result ≡ level_at O.WrittenOrder.written self.now.text.now self.now.line }
     {

@@ -34,6 +34,8 @@ fn fill<O: WrittenOrder>(text: &[u8], sheet: &mut [Record]) -> Result<(), ReadFa
     finish(&sheet[..all], &lists)
 }
 
+// Text and sheet are two memories of the caller's, one to read and one to write, so they stay two in all that follows.
+
 // Reads the text into the sheet: a record a line, the others blank. After a fault the sheet is blank.
 pub fn read<O: WrittenOrder>(text: &[u8], sheet: &mut [Record]) -> Result<(), ReadFault>
     ensures answer { result ≡ verdict (reading O.WrittenOrder.written text.now (length sheet.old)) }
@@ -68,6 +70,7 @@ fn shows<O: WrittenOrder>(text: &[u8], sheet: &[Record]) -> bool
 {
     let mut lists = Lists::new();
     for line in Lines::of(text) {
+        // the lists count the records here, too
         let count = lists.len();
         match read_step::<O>(text, &sheet[..count], &mut lists, line) {
             Ok(row) if row == sheet[count] => {}

@@ -4,8 +4,8 @@ ghost use Rattle.records.specs.Order.{Written};
 
 use text::Range;
 
-// A wait order: what a wait level is, and when one is below another. Both are the order's own, with laws, so `below` and
-// `level` are neither a derived order nor a From.
+// A wait order: what a wait level is, and when one is below another. Both are the order's own: `below` has laws, and
+// `level` takes two numbers as a record keeps them, so they are neither a derived order nor a From.
 // A level is made from any two numbers, as a record keeps them.
 pub trait WaitOrder {
     type Level: Copy;

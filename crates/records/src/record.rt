@@ -18,6 +18,7 @@ pub struct Record {
     pub name: Place,
 }
 
+// A constant and no Default: other constants and arrays of records name it.
 pub const BLANK: Record = Record {
     letter: '\0',
     first: 0,

@@ -7,7 +7,7 @@ ghost use Rattle.tasks.specs.Threads.{operations_of, body_of, sends_of, main_tas
 use crate::push::is_operation;
 use records::{Record, TaskRow};
 
-// The records of a text, and the rows of the tasks that they declare.
+// The records of a text, and the rows of the tasks that they declare. No Model: the definitions take the two apart.
 #[derive(Clone, Copy)]
 pub struct Tasks<'a> {
     pub records: &'a [Record],
@@ -47,7 +47,7 @@ fn count_sends(rows: &[Record]) -> usize
 }
 
 impl<'a> Tasks<'a> {
-    // The number of the main task, which is the last one.
+    // The number of the main task, which is the last one; 0 where there is none, as the definition has it.
     pub fn main(&self) -> usize
         ensures { result ≡ main_task self.now.rows.now }
     {

@@ -10,8 +10,9 @@ use crate::place::{Line, NOWHERE, Place};
 pub struct Fields<'a> {
     // where the line begins in its text
     base: usize,
+    // the whole line, and where the next field begins in it: no rest of it, since places count from the start of the text;
+    // past the end of the line there is none
     line: &'a [u8],
-    // where the next field begins in the line; past the end of the line there is none
     from: usize,
     ghost fits: { base + length line.now < 2 ^ 64 },
     ghost inside: { from ≤ length line.now + 1 },

@@ -8,8 +8,8 @@ use crate::place::{Line, Place};
 // The lines of a text that are still to come.
 #[derive(Clone, Copy)]
 pub struct Lines<'a> {
+    // the whole text, and where the next line begins: no rest of it, since places count from the start of the text
     text: &'a [u8],
-    // where the next line begins
     from: usize,
 }
 
@@ -25,7 +25,8 @@ impl<'a> Lines<'a> {
 
     // The lines from a place on.
     pub fn after(text: &'a [u8], from: usize) -> Lines<'a>
-        ensures { lines_left result ≡ lines_from text.now from }
+        ensures left { lines_left result ≡ lines_from text.now from }
+        ensures begins { (result.text.now ≡ text.now) × (result.from ≡ from) }
     {
         Lines { text, from }
     }
