@@ -57,8 +57,8 @@ entry_past rs C k e far none =
       opening = λ x h. none.opening x h ∙ sym (ap (λ qs. counted_on qs x) (past_counts rs C));
     })
 
-pub operations-counted : (rs : List Record) (k : ℕ) (e : TaskEntry) → EntryOf rs (task_at rs k) e → e.operations ≡ length (task_ops rs k)
-operations-counted rs k e is = is.operations ∙ sym (length-map (body_of rs (tasks_of rs) k) op_of)
+pub operations_counted : (rs : List Record) (k : ℕ) (e : TaskEntry) → EntryOf rs (task_at rs k) e → e.operations ≡ length (task_ops rs k)
+operations_counted rs k e is = is.operations ∙ sym (length-map (body_of rs (tasks_of rs) k) op_of)
 
 -- an operation of a task, where the index finds it
 pub record Found (sheet : List Record) (k p at : ℕ) : Type 0 where
@@ -99,4 +99,4 @@ module _ (sheet : List Record) (C : Checked (records_in sheet)) where
       }
 
   pub step_past : (k p : ℕ) (e : TaskEntry) → EntryOf (records_in sheet) (task_at (records_in sheet) k) e → e.operations ≤ p → step_at (task_ops (records_in sheet) k) p ≡ closing
-  step_past k p e is h = end_step (task_ops (records_in sheet) k) p (omega (arith, h, operations-counted (records_in sheet) k e is))
+  step_past k p e is h = end_step (task_ops (records_in sheet) k) p (omega (arith, h, operations_counted (records_in sheet) k e is))

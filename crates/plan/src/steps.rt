@@ -34,6 +34,7 @@ fn step_of(row: Record) -> Step
 
 impl<'a> Plan<'a> {
     // How many objects the plan has, channels and locks.
+    #[tactic(auto, using(crate::proofs::Kept::objects_are))]
     pub fn object_count(&self) -> usize
         ensures { result ≡ length (objects_of (records_in self.now.sheet.now)) }
     {
@@ -41,6 +42,7 @@ impl<'a> Plan<'a> {
     }
 
     // An object by its number, in the order of declaration; past the objects a row of nothing.
+    #[tactic(auto, using(crate::proofs::Kept::objects_are))]
     pub fn object(&self, object: usize) -> ObjectRow
         ensures { result ≡ row (records_in self.now.sheet.now) object }
     {
@@ -59,6 +61,7 @@ impl<'a> Plan<'a> {
     }
 
     // How many tasks the plan has.
+    #[tactic(auto, using(crate::proofs::Kept::tasks_are))]
     pub fn task_count(&self) -> usize
         ensures { result ≡ length (tasks_of (records_in self.now.sheet.now)) }
     {
@@ -66,6 +69,7 @@ impl<'a> Plan<'a> {
     }
 
     // The entry of a task in the index; past the tasks there is nothing.
+    #[tactic(auto, using(crate::proofs::Kept::entry_is, crate::proofs::Kept::tasks_are))]
     fn entry(&self, task: usize) -> TaskEntry
         ensures { EntryOf (records_in self.now.sheet.now) (task_at (records_in self.now.sheet.now) task) result }
     {
@@ -77,6 +81,7 @@ impl<'a> Plan<'a> {
     }
 
     // How many operations a task has.
+    #[tactic(auto, using(crate::proofs::Kept::operations_counted))]
     pub fn operation_count(&self, task: usize) -> usize
         ensures { result ≡ length (task_ops (records_in self.now.sheet.now) task) }
     {

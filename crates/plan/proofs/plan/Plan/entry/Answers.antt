@@ -2,14 +2,8 @@ use Rattle.std.proofs.Common.{length, ap, ◌∙◌, arith, rules}
 use Rattle.index.specs.Entries.{EmptyEntry}
 use Rattle.plan.specs.Plans.{records_in}
 use Rattle.plan.proofs.Checks.{was_checked}
-use Rattle.plan.proofs.Kept.{entry_is, entry_past, tasks_are}
+use Rattle.plan.proofs.Kept.{entry_past, tasks_are}
 use Rattle.plan.proofs.plan.Plan.entry.Goals as goal
-
-pub returns-then-task-task_rows : goal.returns-then-task-task_rows
-returns-then-task-task_rows c =
-    let p = c.args.self.now in
-    let same = ap length (c.task_rows.ensures.rows ∙ tasks_are p.lists p.threads p.index p.sheet.now p.made) in
-    entry_is p.lists p.threads p.index p.sheet.now p.made c.args.task (omega (arith, c.if-task-task_rows.true, c.task_rows.ensures.few)) (omega (arith, c.if-task-task_rows.true, same))
 
 pub returns-else-task-task_rows : goal.returns-else-task-task_rows
 returns-else-task-task_rows c =
