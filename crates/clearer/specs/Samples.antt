@@ -1,22 +1,13 @@
--- The sample plans and the sample faults of the documents, shown of the definitions themselves.
+-- The sample refusals of the documents, shown of the definitions themselves.
 use Rattle.std.specs.Prelude.{◌≡◌, ℕ, Bool, true, false, ◌&&◌, List, [], ◌∷◌, Ok, Err, codes, Result, ◌==◌}
 use Prim.Native.String.{String}
 use Rattle.clearer.specs.Orders.{rank_written, zone_written}
-use Rattle.clearer.specs.Verdicts.{counts_of}
 use Rattle.records.specs.declared.fault.ReadFault.{ReadFault}
 use Rattle.records.specs.declared.record.Record.{Record}
 use Rattle.records.specs.Faults.{line_of, number_of}
 use Rattle.records.specs.Order.{Written}
 use Rattle.reader.specs.Reading.{reading}
 use Rattle.text.specs.Text.{every}
-
--- a text that is read, and what it counts
-pub record Sample : Type 0 where
-  pub order : Written
-  pub text : String
-  pub threads : ℕ
-  pub moves : ℕ
-  pub sends : ℕ
 
 -- a text that is refused, with the fault's number and line
 pub record Refusal : Type 0 where
@@ -25,29 +16,15 @@ pub record Refusal : Type 0 where
   pub number : ℕ
   pub line : ℕ
 
-abbrev pub counts : Sample → Result (List Record) ReadFault → Bool
-counts s (Ok rs) = counts_of rs s.threads s.moves s.sends
-counts s (Err f) = false
-
 abbrev pub refuses : Refusal → Result (List Record) ReadFault → Bool
 refuses s (Ok rs) = false
 refuses s (Err f) = number_of f == s.number && line_of f == s.line
 
-abbrev pub is_read : Sample → Bool
-is_read s = counts s (reading s.order (codes s.text) 800)
-
 abbrev pub is_refused : Refusal → Bool
 is_refused s = refuses s (reading s.order (codes s.text) 800)
 
-abbrev pub plan : Written → String → ℕ → ℕ → ℕ → Sample
-plan order text threads moves sends = record { order = order; text = text; threads = threads; moves = moves; sends = sends }
-
 abbrev pub fault : Written → String → ℕ → ℕ → Refusal
 fault order text number line = record { order = order; text = text; number = number; line = line }
-
--- a plan whose tasks start several threads; the marked plans are counted with their verdicts
-abbrev pub plans : List Sample
-plans = plan rank_written "P,RANK\nC,X,1\nT,A\nS,X,1\nT,B\nF,A\nF,A\nT,MAIN\nF,B\nF,A\n" 5 12 3 ∷ []
 
 abbrev pub refusals : List Refusal
 refusals =
@@ -84,6 +61,6 @@ refusals =
     ∷ fault rank_written "P,RANK\nC,A,1\nT,M\nQ,A,1\n" 13 3
     ∷ []
 
--- every sample is read and counts as it says, and every refusal is refused as it says
+-- every refusal is refused as it says
 abbrev pub Samples : Type 0
-Samples = (every is_read plans ≡ true) × (every is_refused refusals ≡ true)
+Samples = every is_refused refusals ≡ true

@@ -42,6 +42,13 @@ module _ {Level : Type 0} (made : ℤ → ℤ → Level) (below : Level → Leve
 abbrev pub holds : Marked → Bool
 holds m = cond m.zoned (holds_under zone_level zone_below zone_written m) (holds_under rank_level int_lt rank_written m)
 
+-- the order of a plan
+abbrev pub under_rank : Bool
+under_rank = false
+
+abbrev pub under_zone : Bool
+under_zone = true
+
 abbrev pub cleared : Bool → String → ℕ → ℕ → ℕ → Marked
 cleared zoned text threads moves sends = record { zoned = zoned; text = text; threads = threads; moves = moves; sends = sends; breach = None }
 
@@ -52,18 +59,19 @@ breaks zoned text threads moves sends number line object =
 -- threads, moves and sends, and then of a breach its number, its line and its object; LOAD, AXIS and LEFT are object 0, DONE is object 1
 abbrev pub marked : List Marked
 marked =
-    cleared false "P,RANK\nC,LOAD,20\nC,DONE,10\nT,HOIST\nQ,LOAD,1\nQ,DONE,-1\nR,LOAD\nS,DONE,0\nT,MAIN\nF,HOIST\nS,LOAD,7\nR,DONE\n" 2 7 2
-    ∷ breaks false "P,RANK\nC,LOAD,10\nC,DONE,20\nT,HOIST\nQ,LOAD,1\nQ,DONE,-1\nR,LOAD\nS,DONE,0\nT,MAIN\nF,HOIST\nS,LOAD,7\nR,DONE\n" 2 7 2 22 7 1
-    ∷ breaks false "P,RANK\nC,LOAD,10\nC,DONE,10\nT,HOIST\nQ,LOAD,1\nQ,DONE,-1\nR,LOAD\nS,DONE,0\nT,MAIN\nF,HOIST\nS,LOAD,7\nR,DONE\n" 2 7 2 22 7 1
-    ∷ cleared false "P,RANK\nT,MAIN\n" 1 1 0
-    ∷ cleared false "P,RANK\nC,LOAD,5\nT,MAIN\nS,LOAD,1\nR,LOAD\n" 1 3 1
-    ∷ breaks false "P,RANK\nC,LOAD,5\nT,MAIN\nR,LOAD\n" 1 2 0 21 4 0
-    ∷ breaks false "P,RANK\nC,LOAD,5\nW,LOAD,LOAD,1\nT,MAIN\nS,LOAD,1\nR,LOAD\n" 1 3 1 21 6 0
-    ∷ breaks false "P,RANK\nK,AXIS,5\nT,MAIN\nA,AXIS\nA,AXIS\n" 1 3 0 23 5 0
-    ∷ breaks false "P,RANK\nK,AXIS,5\nT,MAIN\nA,AXIS\n" 1 2 0 26 3 0
-    ∷ breaks false "P,RANK\nK,AXIS,5\nT,MAIN\nL,AXIS\n" 1 2 0 24 4 0
-    ∷ breaks false "P,RANK\nC,LOAD,5\nT,HOIST\nQ,LOAD,-1\nT,MAIN\nF,HOIST\n" 2 3 0 25 3 0
-    ∷ breaks true "P,ZONE\nK,LEFT,1,5\nK,RIGHT,2,9\nT,MAIN\nA,LEFT\nA,RIGHT\nL,RIGHT\nL,LEFT\n" 1 5 0 23 6 0
+    cleared under_rank "P,RANK\nC,LOAD,20\nC,DONE,10\nT,HOIST\nQ,LOAD,1\nQ,DONE,-1\nR,LOAD\nS,DONE,0\nT,MAIN\nF,HOIST\nS,LOAD,7\nR,DONE\n" 2 7 2
+    ∷ breaks under_rank "P,RANK\nC,LOAD,10\nC,DONE,20\nT,HOIST\nQ,LOAD,1\nQ,DONE,-1\nR,LOAD\nS,DONE,0\nT,MAIN\nF,HOIST\nS,LOAD,7\nR,DONE\n" 2 7 2 22 7 1
+    ∷ breaks under_rank "P,RANK\nC,LOAD,10\nC,DONE,10\nT,HOIST\nQ,LOAD,1\nQ,DONE,-1\nR,LOAD\nS,DONE,0\nT,MAIN\nF,HOIST\nS,LOAD,7\nR,DONE\n" 2 7 2 22 7 1
+    ∷ cleared under_rank "P,RANK\nT,MAIN\n" 1 1 0
+    ∷ cleared under_rank "P,RANK\nC,LOAD,5\nT,MAIN\nS,LOAD,1\nR,LOAD\n" 1 3 1
+    ∷ breaks under_rank "P,RANK\nC,LOAD,5\nT,MAIN\nR,LOAD\n" 1 2 0 21 4 0
+    ∷ breaks under_rank "P,RANK\nC,LOAD,5\nW,LOAD,LOAD,1\nT,MAIN\nS,LOAD,1\nR,LOAD\n" 1 3 1 21 6 0
+    ∷ breaks under_rank "P,RANK\nK,AXIS,5\nT,MAIN\nA,AXIS\nA,AXIS\n" 1 3 0 23 5 0
+    ∷ breaks under_rank "P,RANK\nK,AXIS,5\nT,MAIN\nA,AXIS\n" 1 2 0 26 3 0
+    ∷ breaks under_rank "P,RANK\nK,AXIS,5\nT,MAIN\nL,AXIS\n" 1 2 0 24 4 0
+    ∷ breaks under_rank "P,RANK\nC,LOAD,5\nT,HOIST\nQ,LOAD,-1\nT,MAIN\nF,HOIST\n" 2 3 0 25 3 0
+    ∷ breaks under_zone "P,ZONE\nK,LEFT,1,5\nK,RIGHT,2,9\nT,MAIN\nA,LEFT\nA,RIGHT\nL,RIGHT\nL,LEFT\n" 1 5 0 23 6 0
+    ∷ cleared under_rank "P,RANK\nC,X,1\nT,A\nS,X,1\nT,B\nF,A\nF,A\nT,MAIN\nF,B\nF,A\n" 5 12 3
     ∷ []
 
 -- every marked plan counts what it says, and has the verdict that it says

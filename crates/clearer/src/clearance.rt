@@ -8,7 +8,7 @@ use plan::Plan;
 use records::WaitOrder;
 use std::marker::PhantomData;
 
-// A plan that is cleared under a wait order. It cannot be copied: opening a live run uses it up.
+// A plan that is cleared under a wait order. It cannot be copied: opening a live run is to use it up.
 #[derive(Drop)]
 pub struct Clearance<'a, O: WaitOrder> {
     plan: Plan<'a>,

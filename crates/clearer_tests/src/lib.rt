@@ -15,16 +15,24 @@ fn cleared_moves<O: WrittenOrder>(plan: Plan) -> Result<usize, ClearFault> {
     Ok(clearance.plan().moves())
 }
 
-// The number, the line and the object of the first breach of the plan of a text; 0, 0 and its moves where it is cleared,
-// and three zeros where the text is no plan.
-pub fn verdict<O: WrittenOrder>(text: &[u8]) -> (u8, usize, usize) {
+// What is said of the plan of a text.
+#[derive(Clone, Copy, PartialEq, Eq, Debug)]
+pub enum Verdict {
+    NoPlan,
+    Cleared { moves: usize },
+    // the number, the line and the object of the first breach
+    Breach(u8, usize, usize),
+}
+
+// The verdict on the plan of a text under an order.
+pub fn verdict_on<O: WrittenOrder>(text: &[u8]) -> Verdict {
     let mut sheet = [BLANK; MOST_LINES];
     if read::<O>(text, &mut sheet).is_err() || check::<O>(text, &sheet).is_err() {
-        return (0, 0, 0);
+        return Verdict::NoPlan;
     }
     match cleared_moves::<O>(Plan::new::<O>(text, &sheet)) {
-        Ok(moves) => (0, 0, moves),
-        Err(fault) => (fault.number(), fault.line, fault.object),
+        Ok(moves) => Verdict::Cleared { moves },
+        Err(fault) => Verdict::Breach(fault.number(), fault.line, fault.object),
     }
 }
 
@@ -34,27 +42,42 @@ mod tests {
     use clearer::{Rank, Zone};
 
     #[test]
-    fn cleared_and_refused(rt: HostRuntime) {
-        assert_eq!(rt; verdict::<Rank>(b"P,RANK\nT,MAIN\n"), (0, 0, 1));
+    fn marked_plans(rt: HostRuntime) {
         assert_eq!(rt;
-            verdict::<Rank>(b"P,RANK\nC,LOAD,5\nT,MAIN\nR,LOAD\n"),
-            (21, 4, 0)
+            verdict_on::<Rank>(b"P,RANK\nT,MAIN\n"),
+            Verdict::Cleared { moves: 1 }
         );
         assert_eq!(rt;
-            verdict::<Rank>(b"P,RANK\nK,AXIS,5\nT,MAIN\nA,AXIS\n"),
-            (26, 3, 0)
+            verdict_on::<Rank>(b"P,RANK\nC,LOAD,5\nT,MAIN\nR,LOAD\n"),
+            Verdict::Breach(21, 4, 0)
         );
         assert_eq!(rt;
-            verdict::<Rank>(
-                b"P,RANK\nC,LOAD,10\nC,DONE,20\nT,HOIST\nQ,LOAD,1\nQ,DONE,-1\nR,LOAD\nS,DONE,0\nT,MAIN\nF,HOIST\nS,LOAD,7\nR,DONE\n"
+            verdict_on::<Rank>(b"P,RANK\nK,AXIS,5\nT,MAIN\nA,AXIS\n"),
+            Verdict::Breach(26, 3, 0)
+        );
+        assert_eq!(rt;
+            verdict_on::<Zone>(
+                b"P,ZONE\nK,LEFT,1,5\nK,RIGHT,2,9\nT,MAIN\nA,LEFT\nA,RIGHT\nL,RIGHT\nL,LEFT\n",
             ),
-            (22, 7, 1)
+            Verdict::Breach(23, 6, 0)
+        );
+        assert_eq!(rt; verdict_on::<Rank>(b"P,RANK\n"), Verdict::NoPlan);
+    }
+
+    // A held lock bars a receive, a receive without a credit is named before that, and a debt before a lock that is held.
+    #[test]
+    fn which_is_named(rt: HostRuntime) {
+        assert_eq!(rt;
+            verdict_on::<Rank>(b"P,RANK\nC,A,5\nK,B,5\nT,MAIN\nS,A,0\nA,B\nR,A\n"),
+            Verdict::Breach(22, 7, 1)
         );
         assert_eq!(rt;
-            verdict::<Zone>(
-                b"P,ZONE\nK,LEFT,1,5\nK,RIGHT,2,9\nT,MAIN\nA,LEFT\nA,RIGHT\nL,RIGHT\nL,LEFT\n"
-            ),
-            (23, 6, 0)
+            verdict_on::<Rank>(b"P,RANK\nC,A,5\nK,B,5\nT,MAIN\nA,B\nR,A\n"),
+            Verdict::Breach(21, 6, 0)
+        );
+        assert_eq!(rt;
+            verdict_on::<Rank>(b"P,RANK\nK,B,5\nC,A,3\nT,X\nQ,A,-1\nA,B\nT,MAIN\nF,X\n"),
+            Verdict::Breach(25, 4, 1)
         );
     }
 }

@@ -66,6 +66,10 @@ fn own(channel: usize, other: usize) -> i32
     if other == channel { 1 } else { 0 }
 }
 
+// The three that follow go through two tables by the number of a channel: after a write through an adapter of `iter_mut`
+// nothing is known of what was written. To add and to take away differ in the operation of each count, which a closure would
+// have to bring.
+
 // What a send adds to each count: one of its channel, less what the message carries. A receive takes the same away.
 pub(crate) fn gained(channel: usize, carried: &[i32; MOST_OBJECTS]) -> [i32; MOST_OBJECTS]
     requires { (x : ℕ) → x < 32 → pos 0 ≤ℤ amount_in carried.now x }

@@ -1,5 +1,5 @@
-// The rules of a step: which rule it breaks, and what it does to the account of its thread. The walk of the clearer and
-// the moves of a run go by the same two calls.
+// The rules of a step: which rule it breaks, and what it does to the account of its thread. The walk of the clearer
+// goes by these two calls, and so are the moves of a run to go.
 #![tactic(auto)]
 
 mod account;

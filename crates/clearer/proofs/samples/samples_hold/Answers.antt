@@ -5,4 +5,4 @@ use Rattle.clearer.proofs.samples.samples_hold.Goals as goal
 
 pub returns : goal.returns
 unfolding ended read_next crew crew_within
-returns c = (refl, refl)
+returns c = refl
