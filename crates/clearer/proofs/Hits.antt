@@ -88,3 +88,11 @@ module _ (f : ℕ → Option Breach) where
           (λ (other : p ≡ k → ⊥).
           ap (λ r. or_else r (first_of f (suc p) n)) (sym (none p (omega arith) (omega arith))) ∙ found_from (suc p) n k b (λ j l m. none j (omega arith) m) (omega arith) (omega arith) here)
           (cases_eq p k)
+
+-- The walk of the steps of a task, whole and from step p on: what step p answers, in the words of its own judging, is the answer of all, or leaves the rest.
+module _ (f : ℕ → Option Breach) (p n : ℕ) (whole o : Option Breach) (so-far : whole ≡ first_of f p (n - p)) (judged : o ≡ f p) where
+  pub step_found : (b : Breach) → p < n → Some b ≡ o → Some b ≡ whole
+  step_found b l e = sym (so-far ∙ left_found f p n b l (sym (e ∙ judged)))
+
+  pub step_passed : p < n → None ≡ o → whole ≡ first_of f (p + 1) (n - (p + 1))
+  step_passed l e = so-far ∙ left_more f p n l (sym (e ∙ judged))

@@ -1,9 +1,9 @@
-use Rattle.std.proofs.Common.{◌≡◌, ◌+◌, ◌≤◌, suc, Some, None, Err, length, sym, ap, ◌∙◌, arith, rules}
+use Rattle.std.proofs.Common.{◌≡◌, ◌+◌, ◌≤◌, suc, Err, length, sym, ap, ◌∙◌, arith, rules}
 use Rattle.plan.specs.Plans.{records_in}
 use Rattle.plan.specs.Program.{program_of}
 use Rattle.clearer.specs.Breach.{at_line, step_breach, task_breach}
 use Rattle.clearer.specs.Faults.{breach_seen, verdict_of}
-use Rattle.clearer.proofs.Hits.{left_all, left_found, left_more, left_none}
+use Rattle.clearer.proofs.Hits.{left_all, left_none, step_found, step_passed}
 use Rattle.clearer.proofs.Walks.{judged_walk, walked-first, walked_next}
 use Rattle.clearer.proofs.walk.walk_task.Goals as goal
 
@@ -23,10 +23,8 @@ returns-in_err-walk_step g c =
     let fault = c.in_err-walk_step.field-0.0 in
     let is : c.from_residual.result ≡ Err fault = search rules in
     let inside : c.loop-place.place ≤ length (P.ops c.args.task) = omega (arith, c.loop-place-test.true, c.operation_count-place-end.ensures) in
-    let judged = judged_walk P c.args.task p c.loop-place.account (c.loop-place.invariant.1 inside) g.O.WaitOrder.below in
-    let here : Some (breach_seen fault) ≡ f p = c.in_err-walk_step.ensures.found ∙ ap (at_line (P.line c.args.task p)) judged in
-    let first : task_breach P g.O.WaitOrder.below c.args.task ≡ Some (breach_seen fault) = c.loop-place.invariant.0 ∙ left_found f p (suc (length (P.ops c.args.task))) (breach_seen fault) (omega (arith, inside)) (sym here) in
-    ap verdict_of is ∙ sym first
+    let judged = ap (at_line (P.line c.args.task p)) (judged_walk P c.args.task p c.loop-place.account (c.loop-place.invariant.1 inside) g.O.WaitOrder.below) in
+    ap verdict_of is ∙ step_found f p (suc (length (P.ops c.args.task))) _ _ c.loop-place.invariant.0 judged (breach_seen fault) (omega (arith, inside)) c.in_err-walk_step.ensures.found
 
 pub loop-place-preserved : goal.loop-place-preserved
 unfolding task_breach
@@ -38,10 +36,8 @@ loop-place-preserved g c =
     let s = c.in_ok-walk_step.ensures in
     let inside : c.loop-place.place ≤ length (P.ops c.args.task) = omega (arith, c.loop-place-test.true, c.operation_count-place-end.ensures) in
     let w = c.loop-place.invariant.1 inside in
-    let judged = judged_walk P c.args.task p c.loop-place.account w g.O.WaitOrder.below in
-    let here : None ≡ f p = s.found ∙ ap (at_line (P.line c.args.task p)) judged in (
-      c.loop-place.invariant.0
-          ∙ left_more f p (suc (length (P.ops c.args.task))) (omega (arith, inside)) (sym here),
+    let judged = ap (at_line (P.line c.args.task p)) (judged_walk P c.args.task p c.loop-place.account w g.O.WaitOrder.below) in (
+      step_passed f p (suc (length (P.ops c.args.task))) _ _ c.loop-place.invariant.0 judged (omega (arith, inside)) s.found,
       λ l. walked_next P c.args.task p c.loop-place.account w m.sound m.limited m.narrow c.walk_step.new.account s.whole (omega (arith, l)) s.counts s.locks,
     )
 
@@ -53,9 +49,7 @@ returns-in_ok-walk_step g c =
     let p = c.loop-place.place in
     let n = suc (length (P.ops c.args.task)) in
     let inside : c.loop-place.place ≤ length (P.ops c.args.task) = omega (arith, c.loop-place-test.true, c.operation_count-place-end.ensures) in
-    let judged = judged_walk P c.args.task p c.loop-place.account (c.loop-place.invariant.1 inside) g.O.WaitOrder.below in
-    let here : None ≡ f p = c.in_ok-walk_step.ensures.found ∙ ap (at_line (P.line c.args.task p)) judged in
+    let judged = ap (at_line (P.line c.args.task p)) (judged_walk P c.args.task p c.loop-place.account (c.loop-place.invariant.1 inside) g.O.WaitOrder.below) in
     sym
-    (c.loop-place.invariant.0
-    ∙ left_more f p n (omega (arith, inside)) (sym here)
+    (step_passed f p n _ _ c.loop-place.invariant.0 judged (omega (arith, inside)) c.in_ok-walk_step.ensures.found
     ∙ left_none f (p + 1) n (omega (arith, c.operation_count-place-end.ensures)))
