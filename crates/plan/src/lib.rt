@@ -4,6 +4,7 @@
 mod plan;
 mod step;
 mod steps;
+mod stored;
 
 pub use plan::Plan;
 pub use step::Step;

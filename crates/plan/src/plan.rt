@@ -6,6 +6,7 @@ ghost use Rattle.plan.specs.Made.{Made};
 ghost use Rattle.plan.specs.Meaning.{Meant};
 ghost use Rattle.plan.specs.Plans.{WasRead, plan_threads, plan_moves, plan_sends};
 
+use crate::stored::{StoredLists, StoredThreads};
 use index::Index;
 use records::limits::MOST_LINES;
 use records::{Record, WaitOrder, WrittenOrder};
@@ -17,8 +18,8 @@ use tasks::{Lists, Tasks, Threads};
 pub struct Plan<'a> {
     pub(crate) text: &'a [u8],
     pub(crate) sheet: &'a [Record],
-    pub(crate) lists: Lists,
-    pub(crate) threads: Threads,
+    pub(crate) lists: StoredLists,
+    pub(crate) threads: StoredThreads,
     pub(crate) index: Index,
     moves: usize,
     sends: usize,
@@ -51,8 +52,8 @@ impl<'a> Plan<'a> {
         Plan {
             text,
             sheet,
-            lists,
-            threads,
+            lists: StoredLists::of(lists),
+            threads: StoredThreads::of(threads),
             index,
             moves,
             sends,

@@ -20,8 +20,20 @@ pub fn answer(text: &[u8]) -> (u8, usize) {
 mod tests {
     use super::*;
     use clearer::Zone;
+    use records::Record;
     use records::limits::MOST_BYTES;
     use std::test::Fail;
+    use tasks::{Lists, Tasks, Threads};
+
+    // The operations of the main task. They are of the records, so they outlive the lists by which they are found.
+    fn main_body(records: &[Record]) -> &[Record] {
+        let lists = Lists::of(records);
+        let tasks = Tasks {
+            records,
+            rows: lists.task_rows(),
+        };
+        tasks.body_of(tasks.main())
+    }
 
     #[test]
     fn bytes_of_a_line(rt: HostRuntime) {
@@ -151,5 +163,25 @@ mod tests {
         assert!(rt; reader::check::<Zone>(text, &sheet).is_err());
         sheet[799].first = 1;
         assert!(rt; reader::check::<Rank>(text, &sheet).is_err());
+    }
+
+    #[test]
+    fn bodies_and_copies(rt: HostRuntime) {
+        let mut sheet = [BLANK; MOST_LINES];
+        assert!(rt; read::<Rank>(b"P,RANK\nC,A,1\nT,M\nS,A,5\nR,A\n", &mut sheet).is_ok());
+        assert_eq!(rt; main_body(&sheet).len(), 2);
+        let mut lists = Lists::new();
+        let before = lists;
+        assert!(rt; lists.push(sheet[0]).is_ok());
+        assert_eq!(rt; (before.len(), lists.len()), (0, 1));
+        let all = Lists::of(&sheet);
+        let tasks = Tasks {
+            records: &sheet,
+            rows: all.task_rows(),
+        };
+        assert_eq!(rt; tasks.thread_count(0), 1);
+        let threads = Threads::of(&tasks);
+        let copied = threads.map(|table| (table, table));
+        assert!(rt; copied.is_some_and(|(a, b)| a.moves(&tasks) == 3 && b.sends(&tasks) == 1));
     }
 }

@@ -1,3 +1,4 @@
+pub mod Fronts
 pub mod Records
 pub mod Roomy
 pub mod Threads

@@ -62,6 +62,10 @@ tasks_from line (r ∷ rs) = let after = tasks_from (line + 1) rs in cond (is_ta
 abbrev pub tasks_of : List Record → List TaskRow
 tasks_of rs = tasks_from 1 rs
 
+-- a row of nothing
+abbrev pub no_object : ObjectRow
+no_object = record { name = nowhere; kind = Channel; number = pos 0; extra = pos 0 }
+
 abbrev pub no_task : TaskRow
 no_task = record { name = nowhere; line = 0 }
 

@@ -4,7 +4,6 @@ ghost use Rattle.tasks.specs.Threads.{moves_of, sends_of, threads_in};
 
 use crate::parts::Tasks;
 use crate::table::Threads;
-use arrayvec::ArrayVec;
 
 impl Threads {
     // The threads of the main task; none where there are more than 64.
@@ -12,10 +11,10 @@ impl Threads {
         ensures { MatchOption result (64 < length (threads_in tasks.now.records.now tasks.now.rows.now)) (λ t. t ≡ threads_in tasks.now.records.now tasks.now.rows.now) }
     {
         let main = tasks.main();
-        tasks.thread_count(main)?;
-        let mut table = ArrayVec::new();
+        tasks.few_threads(main)?;
+        let mut table = Threads::none();
         tasks.add_threads(main, &mut table);
-        Some(Threads { tasks: table })
+        Some(table)
     }
 
     // The task of each thread.
@@ -23,7 +22,7 @@ impl Threads {
         ensures rows { result.now ≡ self.now }
         ensures few { length result.now ≤ 64 }
     {
-        self.tasks.as_slice()
+        &self.tasks[..self.count]
     }
 
     // Moves and sends are two chains of one line each; a shared one would take what it sums as a closure, and be longer.

@@ -8,10 +8,11 @@ use crate::push::is_operation;
 use records::{Record, TaskRow};
 
 // The records of a text, and the rows of the tasks that they declare. No Model: the definitions take the two apart.
+// Two lifetimes, so that the body of a task outlives the rows that it was found by.
 #[derive(Clone, Copy)]
-pub struct Tasks<'a> {
+pub struct Tasks<'a, 'b> {
     pub records: &'a [Record],
-    pub rows: &'a [TaskRow],
+    pub rows: &'b [TaskRow],
 }
 
 // The records from an index on.
@@ -46,7 +47,7 @@ fn count_sends(rows: &[Record]) -> usize
     rows.iter().filter(|row| row.letter == 'S').count()
 }
 
-impl<'a> Tasks<'a> {
+impl<'a> Tasks<'a, '_> {
     // The number of the main task, which is the last one; 0 where there is none, as the definition has it.
     pub fn main(&self) -> usize
         ensures { result ≡ main_task self.now.rows.now }

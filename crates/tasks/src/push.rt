@@ -5,7 +5,6 @@ ghost use Rattle.tasks.specs.Roomy.{Roomy};
 ghost use Rattle.records.specs.declared.fault.Cause.TheVariants.{Full};
 
 use crate::lists::Lists;
-use arrayvec::ArrayVec;
 use records::limits::{MOST_LINES, MOST_OBJECTS, MOST_OPERATIONS, MOST_TASKS};
 use records::{Cause, Kind, ObjectRow, Record, TaskRow};
 
@@ -62,8 +61,10 @@ impl Lists {
         ensures { result ≡ view_of [] }
     {
         Lists {
-            objects: ArrayVec::new(),
-            tasks: ArrayVec::new(),
+            objects: [ObjectRow::default(); MOST_OBJECTS],
+            object_count: 0,
+            tasks: [TaskRow::default(); MOST_TASKS],
+            task_count: 0,
             operations: 0,
             lines: 0,
         }
@@ -74,7 +75,7 @@ impl Lists {
         ensures rows { result.now ≡ self.now.objects }
         ensures few { length result.now ≤ 32 }
     {
-        self.objects.as_slice()
+        &self.objects[..self.object_count]
     }
 
     // The tasks, in the order of their T lines.
@@ -82,7 +83,7 @@ impl Lists {
         ensures rows { result.now ≡ self.now.tasks }
         ensures few { length result.now ≤ 24 }
     {
-        self.tasks.as_slice()
+        &self.tasks[..self.task_count]
     }
 
     // Whether there is room for one record more.
@@ -93,9 +94,9 @@ impl Lists {
             return false;
         }
         if is_object(row) {
-            !self.objects.is_full()
+            self.object_count < MOST_OBJECTS
         } else if row.letter == 'T' {
-            !self.tasks.is_full()
+            self.task_count < MOST_TASKS
         } else if is_operation(row) {
             self.operations < MOST_OPERATIONS
         } else {
@@ -111,7 +112,8 @@ impl Lists {
         ensures { self.new ≡ record { objects = self.old.objects ++ objects_in row; tasks = self.old.tasks; operations = self.old.operations; lines = self.old.lines } }
     {
         if is_object(row) {
-            self.objects.push(object_row(row));
+            self.objects[self.object_count] = object_row(row);
+            self.object_count += 1;
         }
     }
 
@@ -121,7 +123,8 @@ impl Lists {
         ensures { self.new ≡ record { objects = self.old.objects; tasks = self.old.tasks ++ tasks_in (self.old.lines + 1) row; operations = self.old.operations; lines = self.old.lines } }
     {
         if row.letter == 'T' {
-            self.tasks.push(task_row(self.lines + 1, row));
+            self.tasks[self.task_count] = task_row(self.lines + 1, row);
+            self.task_count += 1;
         }
     }
 

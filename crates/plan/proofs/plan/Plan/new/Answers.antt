@@ -37,8 +37,8 @@ invariant_of-result g c =
     record {
       read = ∣ (g.O.WrittenOrder.written, law.0, law.1, c.requires) ∣₁;
       long = w.long;
-      made = ∣ record { listed = c.of-lists.ensures w.roomy; crew = rows; indexed = subst (λ ts. Indexed (records_in sheet) ts c.of-index.result) (tasks g a) c.of-index.ensures } ∣₁;
-      crew = rows;
+      made = ∣ record { listed = c.of-2.ensures ∙ c.of-lists.ensures w.roomy; crew = c.of-3.ensures ∙ rows; indexed = subst (λ ts. Indexed (records_in sheet) ts c.of-index.result) (tasks g a) c.of-index.ensures } ∣₁;
+      crew = c.of-3.ensures ∙ rows;
       counts = (counted (moves_of (records_in sheet)) c.moves-moves.ensures (tasks g a) rows, counted (sends_of (records_in sheet)) c.sends-sends.ensures (tasks g a) rows);
     }
 

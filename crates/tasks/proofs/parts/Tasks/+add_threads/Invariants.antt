@@ -8,5 +8,5 @@ decreases-add_threads l = l.task
 -- what was added and what is left make the numbering
 abbrev pub invariant-loop-row : goal.invariant-loop-row
 invariant-loop-row l =
-    l.threads.items ++ brought (crew (body_of l.self.records.now l.self.rows.now)) l.task (drop l.row-index l.body)
-    ≡ l.initial.threads.items ++ brought (crew (body_of l.self.records.now l.self.rows.now)) l.task l.body
+    l.threads ++ brought (crew (body_of l.self.records.now l.self.rows.now)) l.task (drop l.row-index l.body)
+    ≡ l.initial.threads ++ brought (crew (body_of l.self.records.now l.self.rows.now)) l.task l.body

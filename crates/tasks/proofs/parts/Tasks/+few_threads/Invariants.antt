@@ -1,9 +1,9 @@
 use Rattle.std.proofs.Common.{◌≡◌, ◌+◌, ◌≤◌, length, drop}
 use Rattle.tasks.specs.Threads.{body_of, brought, crew}
-use Rattle.tasks.proofs.parts.Tasks.+thread_count.Given as goal
+use Rattle.tasks.proofs.parts.Tasks.+few_threads.Given as goal
 
-abbrev pub decreases-thread_count : goal.decreases-thread_count
-decreases-thread_count l = l.task
+abbrev pub decreases-few_threads : goal.decreases-few_threads
+decreases-few_threads l = l.task
 
 -- what was counted and what is left make the threads of the task
 abbrev pub invariant-loop-row : goal.invariant-loop-row

@@ -2,8 +2,8 @@ use Rattle.std.proofs.Common.{◌+◌, length, sym, ap, ◌∙◌, arith}
 use Rattle.tasks.specs.Records.{blank}
 use Rattle.tasks.specs.Threads.{body_of, brought, crew}
 use Rattle.tasks.proofs.Crews.{brought-all, brought-other, brought-started, crew-length}
-use Rattle.tasks.proofs.parts.Tasks.+thread_count.Goals as goal
-use Rattle.tasks.proofs.parts.Tasks.+thread_count.Goals.{then-starts+in_ok-n+else-n-gt-MOST_THREADS, else-starts}
+use Rattle.tasks.proofs.parts.Tasks.+few_threads.Goals as goal
+use Rattle.tasks.proofs.parts.Tasks.+few_threads.Goals.{then-starts+in_ok-n+else-n-gt-MOST_THREADS, else-starts}
 
 pub loop-row-init : goal.loop-row-init
 loop-row-init t c =
