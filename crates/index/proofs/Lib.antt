@@ -1,3 +1,1 @@
-pub mod First
-pub mod Made
 pub mod Tables

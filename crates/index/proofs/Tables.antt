@@ -1,8 +1,8 @@
 -- The records gone through from the last one up.
-use Rattle.std.proofs.Common.{◌≡◌, ℕ, Bool, true, false, cond, List, [], ◌∷◌, ◌++◌, length, drop, ℤ, pos, refl, sym, ap, ◌∙◌, append_assoc}
+use Rattle.std.proofs.Common.{◌≡◌, ℕ, Bool, true, false, cond, eqb, List, [], ◌∷◌, ◌++◌, length, drop, ℤ, pos, refl, sym, ap, ◌∙◌, append_assoc}
 use Rattle.std.proofs.Math.Seq.{drop-append_seam}
 use Rattle.records.specs.declared.record.Record.{Record}
-use Rattle.index.specs.Amounts.{carried_by, carries_of, natural}
+use Rattle.index.specs.Amounts.{carried_by, carries_of, counted_on, natural}
 
 pos_cond : (b : Bool) (m n : ℕ) → cond b (pos m) (pos n) ≡ pos (cond b m n)
 pos_cond true m n = refl
@@ -24,3 +24,6 @@ module _ (all left more gone : List Record) (r : Record) (one : more ≡ left ++
   carried_more x y old new was is =
       is ∙ ap (λ z. cond (carries_of r x y) (pos (natural r.number)) z) was ∙ pos_cond (carries_of r x y) (natural r.number) (carried_by gone x y)
       ∙ ap (λ xs. pos (carried_by xs x y)) (sym gone_more)
+
+  pub counted_more : (x : ℕ) (old new : ℤ) → old ≡ counted_on gone x → new ≡ cond (eqb r.first x) r.number old → new ≡ counted_on (drop (length left) all) x
+  counted_more x old new was is = is ∙ ap (λ z. cond (eqb r.first x) r.number z) was ∙ ap (λ xs. counted_on xs x) (sym gone_more)

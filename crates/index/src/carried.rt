@@ -1,19 +1,10 @@
 // What each message carries, from the W lines.
-ghost use Rattle.std.specs.Prelude.{◌≡◌, ℕ, ◌<◌, pos, if◌then◌else◌, nat_eq};
-ghost use Rattle.index.specs.Amounts.{amount_at, amount_in, carried_by, carries_of, natural};
+ghost use Rattle.std.specs.Prelude.{◌≡◌, ℕ, ◌<◌, pos, if◌then◌else◌};
+ghost use Rattle.index.specs.Amounts.{amount_at, carried_by, carries_of, natural};
 
+use crate::note::note;
 use records::Record;
 use records::limits::MOST_OBJECTS;
-
-// Notes the amount of a channel.
-fn note(amounts: &mut [i32; MOST_OBJECTS], channel: usize, amount: i32)
-    ensures { (x : ℕ) → x < 32 → amount_in amounts.new x ≡ (if nat_eq channel x then amount else amount_in amounts.old x) }
-{
-    // By index: after a write through `get_mut` a proof knows no element.
-    if channel < MOST_OBJECTS {
-        amounts[channel] = amount;
-    }
-}
 
 // Notes what a W line says of its pair.
 fn note_carried(rows: &mut [[i32; MOST_OBJECTS]; MOST_OBJECTS], row: Record)

@@ -40,10 +40,9 @@ impl TaskEntry {
         ensures within { k < length tasks.now.rows.now → EntryOf tasks.now.records.now (slice_index_or tasks.now.rows.now k no_task) result }
         ensures past { length tasks.now.rows.now ≤ k → EmptyEntry result }
     {
-        tasks
-            .rows
-            .get(k)
-            .map(|row| TaskEntry::of(tasks.records, *row))
-            .unwrap_or_default()
+        let Some(row) = tasks.rows.get(k) else {
+            return TaskEntry::default();
+        };
+        TaskEntry::of(tasks.records, *row)
     }
 }

@@ -4,6 +4,7 @@
 mod carried;
 mod entry;
 mod index;
+mod note;
 mod opening;
 
 pub use entry::TaskEntry;
