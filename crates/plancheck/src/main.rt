@@ -1,6 +1,8 @@
 // Reads a plan from standard input, and writes what the library says of it.
 #![tactic(auto)]
 
+ghost use Rattle.std.specs.Prelude.{◌≤◌, vec_capacity};
+
 use clearer::{Rank, Zone, clear};
 use plan::Plan;
 use reader::{check, is_written_in, read};
@@ -10,13 +12,13 @@ use rules::Account;
 use std::io::Read;
 use std::{io, str};
 
-// The text from standard input. One byte more than a plan may have is enough to refuse any longer input.
-fn input(rt: &HostRuntime) -> io::Result<Vec<u8>> {
-    let mut text = Vec::new(rt.alloc());
-    rt.stdin()
-        .take(MOST_BYTES as u64 + 1)
-        .read_to_end(&mut text)?;
-    Ok(text)
+// Reads the text from standard input into a buffer with room for it, so that the buffer does not grow. One byte more than a
+// plan may have is enough to refuse any longer input; the last byte of room is for the read that finds the end.
+fn input(rt: &HostRuntime, text: &mut Vec<u8>) -> io::Result<()>
+    requires { 32770 ≤ vec_capacity text.old }
+{
+    rt.stdin().take(MOST_BYTES as u64 + 1).read_to_end(text)?;
+    Ok(())
 }
 
 // The lines are the program's own format, so that they are written here, and the library has no Display for them. Text and
@@ -81,7 +83,8 @@ fn run(rt: &HostRuntime, text: &[u8], sheet: &mut [Record]) -> io::Result<()> {
 }
 
 fn main(rt: HostRuntime) -> io::Result<()> {
-    let text = input(&rt)?;
+    let mut text = Vec::with_capacity(rt.alloc(), MOST_BYTES + 2)?;
     let mut sheet = vec![in rt.alloc(); BLANK; MOST_LINES]?;
+    input(&rt, &mut text)?;
     run(&rt, &text, &mut sheet)
 }
