@@ -7,12 +7,12 @@ use Rattle.std.proofs.lemmas.List.Folds.{length-prefix_len}
 use Rattle.std.proofs.lemmas.Bool.{and_parts, cond_both, cond-false, cond-true, ltb-true}
 use Rattle.records.specs.declared.record.Record.{Record}
 use Rattle.records.specs.declared.rows.ObjectRow.{ObjectRow}
-use Rattle.tasks.specs.Records.{blank, has_room, is_count, is_object, is_operation, is_task, no_task, object_row, objects_in, objects_of, open_operations, tasks_of}
+use Rattle.tasks.specs.Records.{blank, has_room, is_count, is_object, is_operation, is_task, no_object, no_task, object_row, objects_in, objects_of, open_operations, tasks_of}
 use Rattle.tasks.specs.Roomy.{Roomy}
 use Rattle.tasks.specs.Threads.{body_of, first_operation}
 use Rattle.tasks.proofs.Pushed.{objects_push, open_push}
 use Rattle.plan.specs.Good.{Uses}
-use Rattle.plan.specs.Program.{is_channel, no_object}
+use Rattle.plan.specs.Program.{is_channel}
 use Rattle.plan.proofs.Leadings.{by_run, by_task, leading_at, task-line, tasks_by}
 use Rattle.plan.proofs.Sections.{count_no_task, each_operation, operation_no_task}
 

@@ -20,12 +20,12 @@ use Rattle.records.specs.Names.{named}
 use Rattle.records.specs.Order.{Written}
 use Rattle.reader.specs.Lines.{and_then, before, by_letter, counted, is_kind, letter_after, letter_of, level_at, may_follow, name_at, new_count, new_name, new_pair, not_zero, number_at, object_named, object_of, read_carry, read_count, read_header, read_line, read_object, read_send, read_start, read_task, read_use, same_kind, section_of, sound, task_above, task_named, word_at}
 use Rattle.reader.specs.Reading.{read_rest}
-use Rattle.tasks.specs.Records.{blank, last_letter, objects_of, tasks_of}
+use Rattle.tasks.specs.Records.{blank, last_letter, no_object, objects_of, tasks_of}
 use Rattle.text.specs.declared.place.Line.{Line}
 use Rattle.text.specs.declared.place.Place.{Place}
 use Rattle.text.specs.Text.{byte, bytes_at, first_from, nowhere, within}
 use Rattle.plan.specs.Good.{Between, Good, Uses}
-use Rattle.plan.specs.Program.{is_channel, no_object}
+use Rattle.plan.specs.Program.{is_channel}
 use Rattle.plan.proofs.Rooms.{all_read, let_through, next_ok, no}
 
 -- what a search finds stands in the list

@@ -7,12 +7,12 @@ use Rattle.model.specs.Program.{Op, Within, operation, start, step_at}
 use Rattle.model.specs.Threads.{Sound}
 use Rattle.records.specs.declared.record.Record.{Record}
 use Rattle.reader.specs.Reading.{is_start_of}
-use Rattle.tasks.specs.Records.{blank, is_operation, is_start, no_task, objects_of, tasks_of}
+use Rattle.tasks.specs.Records.{blank, is_operation, is_start, no_object, no_task, objects_of, tasks_of}
 use Rattle.tasks.specs.Threads.{body_of}
 use Rattle.text.specs.Text.{byte}
 use Rattle.plan.specs.Good.{Checked, Good, Uses}
 use Rattle.index.specs.Amounts.{counted_on}
-use Rattle.plan.specs.Program.{is_channel, no_object, op_of, program_of}
+use Rattle.plan.specs.Program.{is_channel, op_of, program_of}
 use Rattle.plan.proofs.Bodies.{body_length, few_objects, stands, uses_whole}
 use Rattle.plan.proofs.Sections.{each_operation, operation_no_blank, operation-place, with_letter}
 

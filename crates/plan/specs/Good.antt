@@ -4,10 +4,10 @@ use Rattle.std.specs.List.{prefix_len}
 use Rattle.records.specs.declared.record.Record.{Record}
 use Rattle.reader.specs.Lines.{last_task_line, may_follow, section_of}
 use Rattle.reader.specs.Reading.{is_start_of}
-use Rattle.tasks.specs.Records.{blank, is_count, is_object, is_send, is_start, is_task, last_letter, objects_of, tasks_of}
+use Rattle.tasks.specs.Records.{blank, is_count, is_object, is_send, is_start, is_task, last_letter, no_object, objects_of, tasks_of}
 use Rattle.tasks.specs.Roomy.{Roomy}
 use Rattle.text.specs.Text.{byte, one_of, some}
-use Rattle.plan.specs.Program.{is_channel, no_object}
+use Rattle.plan.specs.Program.{is_channel}
 
 -- number x is an object of these records: a channel, or a lock
 abbrev pub Uses : List Record → Bool → ℕ → Type 0

@@ -1,5 +1,5 @@
 -- What the records of a plan mean: a program by task, whose start operations name tasks.
-use Rattle.std.specs.Prelude.{ℕ, ◌+◌, Bool, true, false, cond, List, map, length, ℤ, pos, ◌==◌, nat_lt, slice_index_or}
+use Rattle.std.specs.Prelude.{ℕ, ◌+◌, Bool, true, false, cond, List, map, length, ℤ, ◌==◌, nat_lt, slice_index_or}
 use Rattle.index.specs.Amounts.{carried_by, counted_on, natural}
 use Rattle.model.specs.Program.{Account, Op, Program, send, receive, acquire, release, start}
 use Rattle.records.specs.declared.record.Record.{Record}
@@ -7,9 +7,9 @@ use Rattle.records.specs.declared.rows.Kind.{Kind}
 use Rattle.records.specs.declared.rows.Kind.TheVariants.{Channel, Lock}
 use Rattle.records.specs.declared.rows.ObjectRow.{ObjectRow}
 use Rattle.records.specs.declared.rows.TaskRow.{TaskRow}
-use Rattle.tasks.specs.Records.{no_task, objects_of, tasks_of}
+use Rattle.tasks.specs.Records.{no_object, no_task, objects_of, tasks_of}
 use Rattle.tasks.specs.Threads.{body_of, counts_of, first_operation}
-use Rattle.text.specs.Text.{byte, nowhere}
+use Rattle.text.specs.Text.{byte}
 
 -- the operation of a record: S, R, A, L, and else F
 abbrev pub op_of : Record → Op ℕ
@@ -23,9 +23,6 @@ op_of r =
 abbrev pub is_channel : Kind → Bool
 is_channel Channel = true
 is_channel Lock = false
-
-abbrev pub no_object : ObjectRow
-no_object = record { name = nowhere; kind = Channel; number = pos 0; extra = pos 0 }
 
 -- The line of operation p of a task, and past its operations that of its T line.
 abbrev pub line_of : List Record → TaskRow → ℕ → ℕ → ℕ

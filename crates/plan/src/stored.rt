@@ -21,12 +21,14 @@ impl Model for StoredLists {
 }
 
 impl StoredLists {
+    // Keeps the lists of a sheet.
     pub(crate) fn of(lists: Lists) -> StoredLists
         ensures { result ≡ lists }
     {
         StoredLists { lists }
     }
 
+    // The objects, in the order of their declaration.
     pub(crate) fn object_rows(&self) -> &[ObjectRow]
         ensures rows { result.now ≡ self.now.objects }
         ensures few { length result.now ≤ 32 }
@@ -34,6 +36,7 @@ impl StoredLists {
         self.lists.object_rows()
     }
 
+    // The tasks, in the order of their T lines.
     pub(crate) fn task_rows(&self) -> &[TaskRow]
         ensures rows { result.now ≡ self.now.tasks }
         ensures few { length result.now ≤ 24 }
@@ -55,12 +58,14 @@ impl Model for StoredThreads {
 }
 
 impl StoredThreads {
+    // Keeps the threads of a sheet.
     pub(crate) fn of(threads: Threads) -> StoredThreads
         ensures { result ≡ threads }
     {
         StoredThreads { threads }
     }
 
+    // The task of each thread.
     pub(crate) fn rows(&self) -> &[usize]
         ensures rows { result.now ≡ self.now }
         ensures few { length result.now ≤ 64 }

@@ -18,7 +18,7 @@ use Rattle.reader.specs.declared.section.Section.{Section}
 use Rattle.reader.specs.declared.section.Section.TheVariants.{Nothing, Header, Objects, Carries, Task, Counts, Operations}
 use Rattle.records.specs.Names.{first_named}
 use Rattle.records.specs.Order.{Written}
-use Rattle.tasks.specs.Records.{is_count, last_letter, no_task, objects_of, tasks_of}
+use Rattle.tasks.specs.Records.{is_count, last_letter, no_object, no_task, objects_of, tasks_of}
 use Rattle.text.specs.Text.{byte, bytes_at, every, fields, is_legal, is_name, lines, nowhere, number_in, one_of, some}
 
 abbrev pub and_then : {A B E : Type 0} → Result A E → (A → Result B E) → Result B E
@@ -127,9 +127,6 @@ same_kind Channel Channel = true
 same_kind Channel Lock = false
 same_kind Lock Channel = false
 same_kind Lock Lock = true
-
-abbrev pub no_object : ObjectRow
-no_object = record { name = nowhere; kind = Channel; number = pos 0; extra = pos 0 }
 
 abbrev pub is_kind : List ObjectRow → Kind → Option ℕ → Result ℕ Cause
 is_kind rows kind None = Err Unknown
